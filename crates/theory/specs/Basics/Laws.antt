@@ -1,0 +1,60 @@
+-- Laws of the words of Basics.
+--   Each P xs   P holds of each element of xs
+use mathlib.Core.Path.{_≡_, refl, sym, _∙_, ap}
+use mathlib.Core.Bool.{false≢true}
+use native.Mathlib.Omega.{arith}
+use lib.Dec.{eqb}
+use lib.IntN.{+ℤ-idl, +ℤ-assoc}
+use Rattle.theory.specs.Basics.{Bool, true, false, not, _&&_, List, [], _∷_, _++_, map, ℕ, zero, suc, _+_, _%_}
+use Rattle.theory.specs.Basics.{ℤ, _+ℤ_, odd, sum}
+
+-- ---- tests
+pub both : (a b : Bool) → a && b ≡ true → (a ≡ true) × (b ≡ true)
+both true b e = (refl, e)
+both false b e = absurd (false≢true e)
+
+pub odd-suc : (n : ℕ) → odd (suc n) ≡ not (odd n)
+odd-suc n = go (n % 2) (suc n % 2) (omega arith)
+  where
+    go : (a b : ℕ) → a + b ≡ 1 → eqb b 1 ≡ not (eqb a 1)
+    go zero b e =
+        let h : b ≡ 1 = omega arith in
+        rw h refl
+    go (suc zero) b e =
+        let h : b ≡ 0 = omega arith in
+        rw h refl
+    go (suc (suc a)) b e = absurd (omega arith)
+
+-- ---- what holds of each element
+module _ {A : Type 0} where
+  abbrev pub Each : (A → Type 0) → List A → Type 0
+  Each P [] = Unit {0}
+  Each P (x ∷ xs) = P x × Each P xs
+
+  pub each-append : (P : A → Type 0) (xs ys : List A) → Each P xs → Each P ys → Each P (xs ++ ys)
+  each-append P [] ys e f = f
+  each-append P (x ∷ xs) ys e f = (e .0, each-append P xs ys (e .1) f)
+
+  pub each-same : (P Q : A → Type 0) (xs : List A) → ((x : A) → P x → Q x) → Each P xs → Each Q xs
+  each-same P Q [] f e = tt
+  each-same P Q (x ∷ xs) f e = (f x (e .0), each-same P Q xs f (e .1))
+
+  -- ---- sums
+  pub sum-same : (P : A → Type 0) (f g : A → ℤ) (xs : List A) → ((x : A) → P x → f x ≡ g x) → Each P xs
+      → sum f xs ≡ sum g xs
+  sum-same P f g [] e h = refl
+  sum-same P f g (x ∷ xs) e h = rw (e x (h .0), sum-same P f g xs e (h .1))
+
+  pub sum-append : (f : A → ℤ) (xs ys : List A) → sum f (xs ++ ys) ≡ sum f xs +ℤ sum f ys
+  sum-append f [] ys = sym (+ℤ-idl (sum f ys))
+  sum-append f (x ∷ xs) ys = ap (λ z. f x +ℤ z) (sum-append f xs ys) ∙ sym (+ℤ-assoc (f x) (sum f xs) (sum f ys))
+
+module _ {A B : Type 0} where
+  pub each-map : (P : A → Type 0) (Q : B → Type 0) (f : A → B) (xs : List A) → ((x : A) → P x → Q (f x)) → Each P xs
+      → Each Q (map f xs)
+  each-map P Q f [] g e = tt
+  each-map P Q f (x ∷ xs) g e = (g x (e .0), each-map P Q f xs g (e .1))
+
+  pub sum-map : (f : B → ℤ) (g : A → B) (xs : List A) → sum f (map g xs) ≡ sum (λ x. f (g x)) xs
+  sum-map f g [] = refl
+  sum-map f g (x ∷ xs) = ap (λ z. f (g x) +ℤ z) (sum-map f g xs)

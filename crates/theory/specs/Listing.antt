@@ -1,0 +1,36 @@
+-- The listing (document 01, "Listing").
+--   partitions k most n   the partitions of n into at most k parts, none above most: the first part goes down from most
+--   listing n             all partitions of n, in decreasing lexicographic order
+--   rank ps               how many stand before ps in the listing of its degree
+--   column class          the values of a class for all shapes of its degree, in listing order
+use Rattle.theory.specs.Basics.{Bool, true, false, cond, _&&_, List, [], _∷_, map}
+use Rattle.theory.specs.Basics.{ℕ, zero, suc, _-_, ℤ, _=?_, _≤?_, keep, joined, downFrom}
+use Rattle.theory.specs.Partition.{Parts, degree}
+use Rattle.theory.specs.Character.{_on_}
+
+unfoldable pub partitions : ℕ → ℕ → ℕ → List Parts
+partitions zero most zero = [] ∷ []
+partitions zero most (suc n) = []
+partitions (suc k) most zero = [] ∷ []
+partitions (suc k) most (suc n) =
+    joined (λ p. map (λ ps. p ∷ ps) (partitions k p (suc n - p))) (keep (_≤? suc n) (downFrom most))
+
+unfoldable pub listing : ℕ → List Parts
+listing n = partitions n n n
+
+-- the same numbers in the same places
+abbrev pub same : List ℕ → List ℕ → Bool
+same [] [] = true
+same [] (q ∷ qs) = false
+same (p ∷ ps) [] = false
+same (p ∷ ps) (q ∷ qs) = p =? q && same ps qs
+
+abbrev pub rankIn : Parts → List Parts → ℕ
+rankIn ps [] = 0
+rankIn ps (q ∷ list) = cond (same ps q) 0 (suc (rankIn ps list))
+
+unfoldable pub rank : Parts → ℕ
+rank ps = rankIn ps (listing (degree ps))
+
+unfoldable pub column : Parts → List ℤ
+column class = map (_on class) (listing (degree class))

@@ -1,0 +1,112 @@
+-- Laws of part lists.
+--   Front p ps   what isPartition says of a first part p and the parts ps behind it
+--   NoZero ps    no part is 0
+--   Split m ps   where m stands among the parts: those before it and those behind it, which are left without it
+use mathlib.Core.Path.{_≡_, refl, sym, _∙_, ap}
+use mathlib.Core.Bool.{false≢true}
+use Prim.Native.Nat.{_<_, _≤_}
+use native.Mathlib.Decide.{ℕ-discrete}
+use native.Mathlib.Omega.{arith}
+use borrow.Author.Tests.{leb-true, ltb-true, le-leb, lt-ltb, eq-eqb, ne-eqb}
+use Rattle.theory.specs.Basics.{true, _&&_, [], _∷_, _++_, ℕ, zero, suc, _+_, length, _<?_, _≤?_}
+use Rattle.theory.specs.Basics.Laws.{both}
+use Rattle.theory.specs.Partition.{Parts, first, isPartition, degree, times, without}
+
+-- ---- a first part
+pub record Front (p : ℕ) (ps : Parts) : Type 0 where
+  pub positive : 0 < p
+  pub falls : first ps ≤ p
+  pub rest : isPartition ps ≡ true
+
+pub front : (p : ℕ) (ps : Parts) → isPartition (p ∷ ps) ≡ true → Front p ps
+front p ps e =
+    let a = both (0 <? p && first ps ≤? p) (isPartition ps) e in
+    let b = both (0 <? p) (first ps ≤? p) (a .0) in
+    record { positive = ltb-true 0 p (b .0); falls = leb-true (first ps) p (b .1); rest = a .1 }
+
+pub in-front : {p : ℕ} {ps : Parts} → Front p ps → isPartition (p ∷ ps) ≡ true
+in-front {p} {ps} f = rw (lt-ltb 0 p (f .positive), le-leb (first ps) p (f .falls)) (f .rest)
+
+-- ---- room
+pub length-degree : (ps : Parts) → isPartition ps ≡ true → length ps ≤ degree ps
+length-degree [] e = omega arith
+length-degree (p ∷ ps) e =
+    let f = front p ps e in
+    omega (arith, length-degree ps (f .rest))
+
+pub first-degree : (ps : Parts) → first ps ≤ degree ps
+first-degree [] = omega arith
+first-degree (p ∷ ps) = omega arith
+
+-- rows and columns have room in one digit more than the degree
+pub room : (ps : Parts) → isPartition ps ≡ true → length ps + first ps ≤ degree ps + 1
+room [] e = omega arith
+room (p ∷ ps) e =
+    let f = front p ps e in
+    omega (arith, length-degree ps (f .rest))
+
+-- ---- no part is 0
+pub data NoZero : Parts → Type 0 where
+  none : NoZero []
+  some : {p : ℕ} {ps : Parts} → NoZero ps → NoZero (suc p ∷ ps)
+
+pub no-zero : (ps : Parts) → isPartition ps ≡ true → NoZero ps
+no-zero [] e = none
+no-zero (zero ∷ ps) e = absurd (false≢true e)
+no-zero (suc p ∷ ps) e = some (no-zero ps (front (suc p) ps e .rest))
+
+-- ---- one part taken out
+pub record Split (m : ℕ) (ps : Parts) : Type 0 where
+  pub before : Parts
+  pub behind : Parts
+  pub whole : ps ≡ before ++ (m ∷ behind)
+  pub left : without m ps ≡ before ++ behind
+
+pub split : (m : ℕ) (ps : Parts) → (times m ps ≡ 0 → ⊥) → Split m ps
+split m [] h = absurd (h refl)
+split m (p ∷ ps) h = elim (ℕ-discrete p m) [
+  | yes e ↦ record {
+    before = [];
+    behind = ps;
+    whole = ap (λ (q : ℕ). q ∷ ps) e;
+    left = rw (eq-eqb p m e) refl;
+  }
+  | no f ↦
+      let s = split m ps (rw (ne-eqb p m f) at h) in
+      record {
+        before = p ∷ s .before;
+        behind = s .behind;
+        whole = ap (λ (l : Parts). p ∷ l) (s .whole);
+        left = rw (ne-eqb p m f) (ap (λ (l : Parts). p ∷ l) (s .left));
+      }
+]
+
+pub without-degree : (m : ℕ) (ps : Parts) → (times m ps ≡ 0 → ⊥) → degree (without m ps) + m ≡ degree ps
+without-degree m [] h = absurd (h refl)
+without-degree m (p ∷ ps) h = elim (ℕ-discrete p m) [
+  | yes e ↦ rw (eq-eqb p m e) (omega arith)
+  | no f ↦
+      let ih = without-degree m ps (rw (ne-eqb p m f) at h) in
+      rw (ne-eqb p m f) (omega arith)
+]
+
+first-without : (m : ℕ) (ps : Parts) → isPartition ps ≡ true → first (without m ps) ≤ first ps
+first-without m [] e = omega arith
+first-without m (p ∷ ps) e = elim (ℕ-discrete p m) [
+  | yes q ↦ rw (eq-eqb p m q) (front p ps e .falls)
+  | no f ↦ rw (ne-eqb p m f) (omega arith)
+]
+
+pub without-partition : (m : ℕ) (ps : Parts) → isPartition ps ≡ true → isPartition (without m ps) ≡ true
+without-partition m [] e = refl
+without-partition m (p ∷ ps) e =
+    let f = front p ps e in
+    elim (ℕ-discrete p m) [
+      | yes q ↦ rw (eq-eqb p m q) (f .rest)
+      | no g ↦ rw (ne-eqb p m g)
+          (in-front {ps = without m ps} (record {
+            positive = f .positive;
+            falls = omega (arith, first-without m ps (f .rest), f .falls);
+            rest = without-partition m ps (f .rest);
+          }))
+    ]

@@ -2,6 +2,7 @@
 --   partitions k most n   the partitions of n into at most k parts, none above most: the first part goes down from most
 --   listing n             all partitions of n, in decreasing lexicographic order
 --   rank ps               how many stand before ps in the listing of its degree
+--   partitionCounts       how many partitions the degrees 0 to 16 have, a list of constants
 --   column class          the values of a class for all shapes of its degree, in listing order
 use Rattle.theory.specs.Basics.{Bool, true, false, cond, _&&_, List, [], _∷_, map}
 use Rattle.theory.specs.Basics.{ℕ, zero, suc, _-_, ℤ, _=?_, _≤?_, keep, joined, downFrom}
@@ -17,6 +18,10 @@ partitions (suc k) most (suc n) =
 
 unfoldable pub listing : ℕ → List Parts
 listing n = partitions n n n
+
+unfoldable pub partitionCounts : List ℕ
+partitionCounts =
+    1 ∷ 1 ∷ 2 ∷ 3 ∷ 5 ∷ 7 ∷ 11 ∷ 15 ∷ 22 ∷ 30 ∷ 42 ∷ 56 ∷ 77 ∷ 101 ∷ 135 ∷ 176 ∷ 231 ∷ []
 
 -- the same numbers in the same places
 abbrev pub same : List ℕ → List ℕ → Bool

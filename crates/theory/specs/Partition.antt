@@ -6,7 +6,7 @@
 --   times p ps       how often p occurs among the parts
 --   without m ps     the parts with one m taken out, if there is one
 --   transposed ps    rows and columns interchanged: column j is as long as there are rows of length j or more
-use Rattle.theory.specs.Basics.{Bool, true, cond, _&&_, List, [], _∷_, map, reverse, ℕ, zero, suc}
+use Rattle.theory.specs.Basics.{Bool, true, cond, _&&_, List, [], _∷_, map, reverse, ℕ}
 use Rattle.theory.specs.Basics.{_=?_, _<?_, _≤?_, count, total, downFrom}
 pub mod Laws
 

@@ -9,6 +9,7 @@ use Rattle.theory.specs.Basics.{Bool, not, cond, _&&_, List, [], _∷_, 
 use Rattle.theory.specs.Partition.{Parts, isPartition, degree, times}
 use Rattle.theory.specs.ShapeWord.{goodShape, shapeOf}
 use Rattle.theory.specs.ClassWord.{goodClass, classOf}
+pub mod Laws
 
 abbrev pub degreeLimit : ℕ
 degreeLimit = 16

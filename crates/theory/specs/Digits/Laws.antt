@@ -2,14 +2,14 @@
 --   filled n ds   n digits that begin with ds; zeros fill the rest
 use mathlib.Core.Path.{_≡_, refl, sym, _∙_, ap}
 use mathlib.Core.Logic.{_⊎_, inl, inr, ⊎-elim}
-use Prim.Native.Nat.{_≤_, _<_}
-use native.Mathlib.Nat.{mod-eq-of-lt, div-eq-of-lt, zero-add}
+use Prim.Native.Nat.{_<_}
+use native.Mathlib.Nat.{div-eq-of-lt, zero-add}
 use native.Mathlib.Decide.{decLt}
 use native.Mathlib.Numerals.{add-one}
 use native.Mathlib.Omega.{arith}
 use lib.Dec.{eqb}
 use lib.Pow.{pow-pos, high, low, field, mod-mod-pow}
-use Rattle.theory.specs.Basics.{Bool, true, false, List, [], _∷_, ℕ, zero, suc, _+_, _-_, _*_, _/_, _%_, _^_, length}
+use Rattle.theory.specs.Basics.{true, false, [], _∷_, ℕ, zero, suc, _+_, _-_, _*_, _/_, _%_, _^_, length}
 use Rattle.theory.specs.Digits.{Digits, bit, digits, word}
 
 unfoldable pub filled : ℕ → Digits → Digits

@@ -2,7 +2,7 @@
 --   Front p ps   what isPartition says of a first part p and the parts ps behind it
 --   NoZero ps    no part is 0
 --   Split m ps   where m stands among the parts: those before it and those behind it, which are left without it
-use mathlib.Core.Path.{_≡_, refl, sym, _∙_, ap}
+use mathlib.Core.Path.{_≡_, refl, ap}
 use mathlib.Core.Bool.{false≢true}
 use Prim.Native.Nat.{_<_, _≤_}
 use native.Mathlib.Decide.{ℕ-discrete}

@@ -8,6 +8,8 @@
 use Rattle.theory.specs.Basics.{Bool, true, false, not, cond, List, [], _∷_, ℕ, zero, suc, _+_, _/_, _^_}
 use Rattle.theory.specs.Basics.{_=?_, odd, count}
 pub mod Laws
+pub mod LastOne
+pub mod Low
 
 abbrev pub Digits : Type 0
 Digits = List Bool

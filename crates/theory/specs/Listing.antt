@@ -8,6 +8,10 @@ use Rattle.theory.specs.Basics.{Bool, true, false, cond, _&&_, List, [],
 use Rattle.theory.specs.Basics.{ℕ, zero, suc, _-_, ℤ, _=?_, _≤?_, keep, joined, downFrom}
 use Rattle.theory.specs.Partition.{Parts, degree}
 use Rattle.theory.specs.Character.{_on_}
+pub mod Laws
+pub mod Order
+pub mod Ranks
+pub mod Columns
 
 unfoldable pub partitions : ℕ → ℕ → ℕ → List Parts
 partitions zero most zero = [] ∷ []

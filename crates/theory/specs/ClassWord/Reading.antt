@@ -1,0 +1,118 @@
+-- Reading a class word (document 01, "Reading counts leading zeros again and again"), at any width W: 31 of a 32-bit
+-- word, 63 of a 64-bit word. Leading zeros give the next part, trailing zeros the degree.
+--   Next W at x z b   the next part when `at` of the W digits have been read and the number x is left: z are the leading
+--                     zeros of x, b is the one behind them, the part is z - at; b comes off, and z digits have been read
+--   Shifted W x z     the same where x stands at the top: the part is z + 1, and two shifts take it out
+use mathlib.Core.Path.{_≡_, refl, ap, ap₂, _∙_}
+use Prim.Native.Nat.{_≤_, _<_}
+use native.Mathlib.Nat.{zero-add, add-zero, add-suc, add-comm, suc-sub-suc, one-mul, mul-one, pow-suc, mod-eq-of-lt}
+use native.Mathlib.Nat.{lt-of-lt-of-le, lt-of-le-of-lt, lt-of-not-le, not-le-of-lt}
+use native.Mathlib.Numerals.{add-one}
+use native.Mathlib.Omega.{arith}
+use lib.Pow.{pow-pos, pow-mono, pow-lt, pow-add, shl-lt}
+use lib.Count.{leadingZeros, leading-top, trailingZeros}
+use Rattle.theory.specs.Basics.{true, false, [], _∷_, _++_, ℕ, zero, suc, _+_, _-_, _*_, _/_, _%_, _^_}
+use Rattle.theory.specs.Basics.{length, drop}
+use Rattle.theory.specs.Partition.{Parts, degree}
+use Rattle.theory.specs.Digits.{Digits, digits}
+use Rattle.theory.specs.Digits.Laws.{digits-rest, digits-one, length-digits}
+use Rattle.theory.specs.Digits.Low.{digits-last, low-zero, low-one, lowest-digit}
+use Rattle.theory.specs.ClassWord.{partsAfter}
+use Rattle.theory.specs.ClassWord.Laws.{parts-front}
+
+pub record Next (W at x z b : ℕ) : Type 0 where
+  pub above : at < z
+  pub within : z ≤ W
+  pub one : 0 < b
+  pub takes : b ≤ x
+  pub left : x - b < 2 ^ (W - z)
+  pub reads : partsAfter 0 (digits (W - at) x) ≡ (z - at) ∷ partsAfter 0 (digits (W - z) (x - b))
+
+-- the one behind z zeros is what `1 << (W - z)` gives
+pub next : (W at x : ℕ) → 0 < x → x < 2 ^ (W - at)
+    → Next W at x (leadingZeros (suc W) x) (1 * 2 ^ (W - leadingZeros (suc W) x) % 2 ^ suc W)
+next W at x p h = go (leadingZeros (suc W) x) (leading-top (suc W) x p (lt-of-lt-of-le h (pow-mono (omega arith))))
+  where
+    go : (z : ℕ) → (j : ℕ) × (z + suc j ≡ suc W) × (2 ^ j ≤ x) × (x < 2 ^ suc j)
+        → Next W at x z (1 * 2 ^ (W - z) % 2 ^ suc W)
+    go z (j, e, lo, hi) =
+        let digit : W - z ≡ j = omega arith in
+        let b : 1 * 2 ^ (W - z) % 2 ^ suc W ≡ 2 ^ j = rw (digit, one-mul) (mod-eq-of-lt (pow-lt (omega arith))) in
+        let unread : j < W - at = lt-of-not-le (λ (g : W - at ≤ j). not-le-of-lt (lt-of-le-of-lt lo h) (pow-mono g)) in
+        let below : x - 2 ^ j < 2 ^ j = omega arith in
+        let n : W - at ≡ suc (W - at - suc j + j) = omega arith in
+        let whole : x ≡ 2 ^ j + (x - 2 ^ j) = omega arith in
+        let part : suc (0 + (W - at - suc j)) ≡ z - at = omega arith in
+        record {
+          above = omega arith;
+          within = omega arith;
+          one = rw b (pow-pos j);
+          takes = rw b lo;
+          left = rw (b, digit) below;
+          reads = rw (b, digit)
+              (ap₂ (λ (m y : ℕ). partsAfter 0 (digits m y)) n whole
+              ∙ parts-front 0 (W - at - suc j) j (x - 2 ^ j) below
+              ∙ ap (λ (p : ℕ). p ∷ partsAfter 0 (digits j (x - 2 ^ j))) part);
+        }
+
+-- ---- the lowest digit, and the degree by trailing zeros
+parts-zero : (z : ℕ) (ds : Digits) → partsAfter z (ds ++ (false ∷ [])) ≡ partsAfter z ds
+parts-zero z [] = refl
+parts-zero z (false ∷ ds) = parts-zero (suc z) ds
+parts-zero z (true ∷ ds) = ap (λ (ps : Parts). suc z ∷ ps) (parts-zero 0 ds)
+
+degree-one : (z : ℕ) (ds : Digits) → degree (partsAfter z (ds ++ (true ∷ []))) ≡ z + suc (length ds)
+degree-one z [] = omega arith
+degree-one z (false ∷ ds) = omega (arith, degree-one (suc z) ds)
+degree-one z (true ∷ ds) = omega (arith, degree-one 0 ds)
+
+pub class-degree : (n x : ℕ) → degree (partsAfter 0 (digits n x)) ≡ n - trailingZeros n x
+class-degree zero x = unfold digits trailingZeros in refl
+class-degree (suc n) x = elim (lowest-digit n x) [
+  | low-zero e d t ↦ rw (t, suc-sub-suc, d, parts-zero 0 (digits n (x / 2))) (class-degree n (x / 2))
+  | low-one e d t ↦ rw (t, d) (omega (arith, degree-one 0 (digits n (x / 2)), length-digits n (x / 2)))
+]
+
+-- ---- reading by shifts: what is left stands at the top of a word of W + 1 bits
+parts-double : (n x : ℕ) → partsAfter 0 (digits (suc n) (x * 2)) ≡ partsAfter 0 (digits n x)
+parts-double n x =
+    let half : x * 2 / 2 ≡ x = omega arith in
+    let even : x * 2 % 2 ≡ 0 = omega arith in
+    rw (digits-last n (x * 2), half, even) (parts-zero 0 (digits n x))
+
+parts-shift : (n k x : ℕ) → partsAfter 0 (digits (n + k) (x * 2 ^ k)) ≡ partsAfter 0 (digits n x)
+parts-shift n zero x = rw (add-zero, mul-one)
+parts-shift n (suc k) x =
+    let e : x * 2 ^ suc k ≡ x * 2 ^ k * 2 = omega (arith, ap (λ (y : ℕ). x * y) (pow-suc 2 k)) in
+    rw (add-suc, e) (parts-double (n + k) (x * 2 ^ k) ∙ parts-shift n k x)
+
+abbrev pub Shifted : ℕ → ℕ → ℕ → Type 0
+Shifted W x z =
+    partsAfter 0 (digits (suc W) x) ≡ (z + 1) ∷ partsAfter 0 (digits (suc W) (x * 2 ^ z % 2 ^ suc W * 2 % 2 ^ suc W))
+
+-- a word of W digits, moved to the top
+pub shift-start : (W x : ℕ) → partsAfter 0 (digits (suc W) (x * 2 % 2 ^ suc W)) ≡ partsAfter 0 (digits W x)
+shift-start W x = rw digits-rest (parts-double W x)
+
+-- the first shift moves the top one to bit W, the second drops it
+one-out : (j z r : ℕ) → r < 2 ^ j → digits (j + z) ((2 ^ j + r) * 2 ^ z % 2 ^ suc (j + z)) ≡ digits (j + z) (r * 2 ^ z)
+unfolding digits
+one-out j z r h =
+    let e : (2 ^ j + r) * 2 ^ z ≡ 2 ^ (j + z) + r * 2 ^ z = omega (arith, pow-add 2 j z) in
+    let d = digits-rest (suc (j + z)) ((2 ^ j + r) * 2 ^ z) in
+    ap (drop 1) (d ∙ ap (digits (suc (j + z))) e ∙ digits-one (j + z) (r * 2 ^ z) (shl-lt j z h))
+
+shift-one : (j z r : ℕ) → r < 2 ^ j → Shifted (j + z) (2 ^ j + r) z
+shift-one j z r h =
+    let s = shift-start (j + z) ((2 ^ j + r) * 2 ^ z % 2 ^ suc (j + z)) in
+    let p = parts-front 0 z j r h in
+    rw (s, one-out j z r h, parts-shift j z r, add-one z) (rw (zero-add, add-comm z j) at p)
+
+pub shift-next : (W x : ℕ) → 0 < x → x < 2 ^ suc W → Shifted W x (leadingZeros (suc W) x)
+shift-next W x p h = go (leadingZeros (suc W) x) (leading-top (suc W) x p h)
+  where
+    go : (z : ℕ) → (j : ℕ) × (z + suc j ≡ suc W) × (2 ^ j ≤ x) × (x < 2 ^ suc j) → Shifted W x z
+    go z (j, e, lo, hi) =
+        let size : j + z ≡ W = omega arith in
+        let whole : 2 ^ j + (x - 2 ^ j) ≡ x = omega arith in
+        rw (size, whole) at (shift-one j z (x - 2 ^ j) (omega arith))

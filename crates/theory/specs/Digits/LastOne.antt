@@ -7,18 +7,19 @@ use native.Mathlib.Decide.{ℕ-discrete}
 use native.Mathlib.Nat.{pos-of-ne-zero}
 use native.Mathlib.Omega.{arith}
 use borrow.Author.Tests.{eq-eqb, ne-eqb}
-use Rattle.theory.specs.Basics.{Bool, true, false, cond, List, [], _∷_, _++_, ℕ, zero, suc, _+_, length, replicate}
-use Rattle.theory.specs.Basics.{keep, count}
+use Rattle.theory.specs.Basics.{Bool, true, false, cond, List, [], _∷_, _++_, ℕ, zero, suc, _+_}
+use Rattle.theory.specs.Basics.{length, replicate, keep, count}
 use Rattle.theory.specs.Digits.{Digits, word, ones, upToLastOne}
 use Rattle.theory.specs.Digits.Laws.{filled, word-filled}
 
 -- ---- ones
-pub count-append : {A : Type 0} (test : A → Bool) (xs ys : List A) → count test (xs ++ ys) ≡ count test xs + count test ys
-count-append test [] ys = omega arith
-count-append test (x ∷ xs) ys =
-    let e = count-append test xs ys in
-    elim (test x) as (λ b. length (cond b (x ∷ keep test (xs ++ ys)) (keep test (xs ++ ys)))
-    ≡ length (cond b (x ∷ keep test xs) (keep test xs)) + count test ys) [ true ↦ omega arith | false ↦ e ]
+module _ {A : Type 0} (test : A → Bool) where
+  pub count-append : (xs ys : List A) → count test (xs ++ ys) ≡ count test xs + count test ys
+  count-append [] ys = omega arith
+  count-append (x ∷ xs) ys =
+      let e = count-append xs ys in
+      elim (test x) as (λ b. length (cond b (x ∷ keep test (xs ++ ys)) (keep test (xs ++ ys)))
+      ≡ length (cond b (x ∷ keep test xs) (keep test xs)) + count test ys) [ true ↦ omega arith | false ↦ e ]
 
 pub ones-append : (ds es : Digits) → ones (ds ++ es) ≡ ones ds + ones es
 ones-append = count-append (λ d. d)
@@ -57,7 +58,8 @@ up-to (some {d = d} {ds = ds} h u) = last-some d ds h ∙ ap (λ (l : Digits). d
 pub last-one : (ds : Digits) → upToLastOne (ds ++ (true ∷ [])) ≡ ds ++ (true ∷ [])
 last-one [] = refl
 last-one (d ∷ ds) =
-    last-some d (ds ++ (true ∷ [])) (omega (arith, ones-append (d ∷ ds) (true ∷ []))) ∙ ap (λ (l : Digits). d ∷ l) (last-one ds)
+    last-some d (ds ++ (true ∷ [])) (omega (arith, ones-append (d ∷ ds) (true ∷ [])))
+    ∙ ap (λ (l : Digits). d ∷ l) (last-one ds)
 
 pub last-zero : (ds : Digits) → upToLastOne (ds ++ (false ∷ [])) ≡ upToLastOne ds
 last-zero [] = refl

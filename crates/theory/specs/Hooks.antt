@@ -9,6 +9,12 @@
 use Rattle.theory.specs.Basics.{Bool, true, false, List, [], _∷_, _++_, map, take, drop, ℕ, zero, suc, odd}
 use Rattle.theory.specs.Basics.{ℤ, negℤ}
 use Rattle.theory.specs.Digits.{Digits, digits, word, zeros, width}
+pub mod Laws
+pub mod Places
+pub mod Words
+pub mod Betas
+pub mod Rule
+pub mod Evaluation
 
 pub record Hook (A : Type 0) : Type 0 where
   pub minus : Bool

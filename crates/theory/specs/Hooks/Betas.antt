@@ -1,0 +1,88 @@
+-- The beta-numbers of digits are those of their rows and of zero rows behind them: a class counts its character there.
+--   digitBetas ds   to each zero, how many digits are behind it
+use mathlib.Core.Path.{_≡_, refl, sym, _∙_, ap}
+use native.Mathlib.Omega.{arith}
+use lib.Dec.{eqb·suc-zero}
+use lib.ListN.{length-append}
+use Rattle.theory.specs.Basics.{true, false, cond, List, [], _∷_, _++_, map, length, replicate}
+use Rattle.theory.specs.Basics.{ℕ, zero, suc, _+_, ℤ, pos, _=?_}
+use Rattle.theory.specs.Partition.{Parts}
+use Rattle.theory.specs.Partition.Laws.{NoZero}
+use Rattle.theory.specs.Digits.{Digits, ones, zeros}
+use Rattle.theory.specs.ShapeWord.{rows}
+use Rattle.theory.specs.Character.{_on_}
+use Rattle.theory.specs.Character.Alternating.{raisedBy}
+use Rattle.theory.specs.Character.Counted.{counted, counted-stable}
+use Rattle.theory.specs.Character.Betas.{betas, length-betas, zeros-behind}
+use Rattle.theory.specs.Character.Order.{character-counted}
+use Rattle.theory.specs.Rules.InOrder.{PositiveFirst}
+use Rattle.theory.specs.Hooks.{shifted}
+
+abbrev pub digitBetas : Digits → List ℤ
+digitBetas [] = []
+digitBetas (true ∷ ds) = digitBetas ds
+digitBetas (false ∷ ds) = pos (length ds) ∷ digitBetas ds
+
+pub length-digitBetas : (ds : Digits) → length (digitBetas ds) ≡ zeros ds
+length-digitBetas [] = refl
+length-digitBetas (true ∷ ds) = length-digitBetas ds
+length-digitBetas (false ∷ ds) = ap suc (length-digitBetas ds)
+
+pub digitBetas-append : (b a : Digits) → digitBetas (b ++ a) ≡ raisedBy (length a) (digitBetas b) ++ digitBetas a
+digitBetas-append [] a = refl
+digitBetas-append (true ∷ b) a = digitBetas-append b a
+digitBetas-append (false ∷ b) a = rw (length-append b a, digitBetas-append b a)
+
+pub digitBetas-shifted : (ds : Digits) → digitBetas (shifted ds) ≡ digitBetas ds
+digitBetas-shifted [] = refl
+digitBetas-shifted (true ∷ ds) = digitBetas-shifted ds
+digitBetas-shifted (false ∷ ds) = refl
+
+-- ---- the rows of digits
+rows-none : (ds : Digits) → ones ds ≡ 0 → rows ds ≡ []
+rows-none [] e = refl
+rows-none (true ∷ ds) e = absurd (omega arith)
+rows-none (false ∷ ds) e = rw e refl
+
+rows-positive : (ds : Digits) → PositiveFirst (map pos (rows ds))
+rows-positive [] = tt
+rows-positive (true ∷ ds) = rows-positive ds
+rows-positive (false ∷ ds) = go (ones ds)
+  where
+    go : (n : ℕ) → PositiveFirst (map pos (cond (n =? 0) [] (n ∷ rows ds)))
+    go zero = tt
+    go (suc n) = rw (eqb·suc-zero n) (n, refl)
+
+ones-zeros : (ds : Digits) → ones ds + zeros ds ≡ length ds
+ones-zeros [] = refl
+ones-zeros (true ∷ ds) = omega (arith, ones-zeros ds)
+ones-zeros (false ∷ ds) = omega (arith, ones-zeros ds)
+
+row-betas : (ds : Digits) (l : List ℤ) → digitBetas ds ≡ betas l → digitBetas (false ∷ ds) ≡ betas (pos (ones ds) ∷ l)
+row-betas ds l e =
+    let h : length l ≡ zeros ds = sym (length-betas l) ∙ ap length (sym e) ∙ length-digitBetas ds in
+    let k : length ds ≡ ones ds + length l = omega (arith, ones-zeros ds) in
+    rw (k, e)
+
+-- the rows, and zero rows behind them, have the beta-numbers of the digits
+rows-betas : (ds : Digits) → (z : ℕ) × (digitBetas ds ≡ betas (map pos (rows ds) ++ replicate z (pos 0)))
+rows-betas [] = (0, refl)
+rows-betas (true ∷ ds) = rows-betas ds
+rows-betas (false ∷ ds) = go (ones ds) refl (rows-betas ds)
+  where
+    go : (n : ℕ) → ones ds ≡ n → ((z : ℕ) × (digitBetas ds ≡ betas (map pos (rows ds) ++ replicate z (pos 0))))
+        → (z : ℕ) × (digitBetas (false ∷ ds) ≡ betas (map pos (cond (n =? 0) [] (n ∷ rows ds)) ++ replicate z (pos 0)))
+    go zero e (z, f) = (
+      suc z,
+      rw (e, rows-none ds e) at (row-betas ds (map pos (rows ds) ++ replicate z (pos 0)) f),
+    )
+    go (suc n) e (z, f) = (
+      z,
+      rw (eqb·suc-zero n) (rw e at (row-betas ds (map pos (rows ds) ++ replicate z (pos 0)) f)),
+    )
+
+pub rows-counted : (c : Parts) → NoZero c → (ds : Digits) → rows ds on c ≡ counted c (digitBetas ds)
+rows-counted c k ds =
+    let (z, e) = rows-betas ds in
+    character-counted c k (map pos (rows ds)) (rows-positive ds)
+    ∙ sym (ap (counted c) e ∙ zeros-behind (counted c) (counted-stable c k) (map pos (rows ds)) z)

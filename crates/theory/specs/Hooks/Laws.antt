@@ -1,0 +1,139 @@
+-- Laws of hooks, on digits and for any length h: what a hook leaves, and how many hooks there are.
+--   Exchange h ds hook   what the hook leaves has as many digits and as many ones as ds, and h pairs fewer
+use mathlib.Core.Path.{_≡_, refl, sym, _∙_, ap}
+use Prim.Native.Nat.{_≤_, _<_}
+use native.Mathlib.Nat.{le-trans}
+use native.Mathlib.Decide.{ℕ-discrete, decLt}
+use native.Mathlib.Omega.{arith}
+use lib.Pow.{pow-pos}
+use lib.ListN.{length-append, length-map, length-take, take-append-drop, drop-of-length-le}
+use borrow.Author.Tests.{eq-eqb, ne-eqb}
+use Rattle.theory.specs.Basics.{Bool, true, false, [], _∷_, _++_, take, drop, length, ℕ, zero, suc, _+_, _^_}
+use Rattle.theory.specs.Basics.Laws.{Each, each-append, each-map}
+use Rattle.theory.specs.Partition.{degree}
+use Rattle.theory.specs.Partition.Laws.{length-degree}
+use Rattle.theory.specs.Digits.{Digits, word, ones}
+use Rattle.theory.specs.Digits.Laws.{word-below}
+use Rattle.theory.specs.ShapeWord.{rows, pairs}
+use Rattle.theory.specs.ShapeWord.Laws.{rows-none, rows-partition, degree-pairs}
+use Rattle.theory.specs.Hooks.{Hook, led, hookOver, hooks, shifted}
+
+pub record Exchange (h : ℕ) (ds : Digits) (hook : Hook Digits) : Type 0 where
+  pub lower : pairs (hook .leaves) + h ≡ pairs ds
+  pub same-ones : ones (hook .leaves) ≡ ones ds
+  pub same-length : length (hook .leaves) ≡ length ds
+
+-- ---- the exchange of a zero and a one
+ones-exchanged : (between after : Digits) → suc (ones (between ++ false ∷ after)) ≡ ones (between ++ true ∷ after)
+ones-exchanged [] after = refl
+ones-exchanged (true ∷ between) after = ap suc (ones-exchanged between after)
+ones-exchanged (false ∷ between) after = ones-exchanged between after
+
+-- each digit between is in one pair fewer, with the zero if it is a one and with the one if it is a zero
+pairs-exchanged : (between after : Digits)
+    → pairs (between ++ false ∷ after) + suc (length between) ≡ pairs (false ∷ between ++ true ∷ after)
+pairs-exchanged [] after = omega arith
+pairs-exchanged (true ∷ between) after = omega (arith, pairs-exchanged between after)
+pairs-exchanged (false ∷ between) after = omega (arith, pairs-exchanged between after, ones-exchanged between after)
+
+exchange-over : (between after : Digits)
+    → Each (Exchange (suc (length between)) (false ∷ between ++ after)) (hookOver between after)
+exchange-over between [] = tt
+exchange-over between (false ∷ after) = tt
+exchange-over between (true ∷ after) = (
+  record {
+    lower = pairs-exchanged between after;
+    same-ones = omega (arith, ones-exchanged between after);
+    same-length = simp length-append;
+  },
+  tt,
+)
+
+exchange-first : (between : ℕ) (ds : Digits)
+    → Each (Exchange (suc between) (false ∷ ds)) (hookOver (take between ds) (drop between ds))
+exchange-first between ds = elim (decLt between (length ds)) [
+  | yes l ↦
+      let e : length (take between ds) ≡ between = omega (arith, length-take between ds) in
+      rw (e, take-append-drop between ds) at (exchange-over (take between ds) (drop between ds))
+  | no g ↦ rw (drop-of-length-le ds {i = between} (omega arith)) tt
+]
+
+exchange-led : {h : ℕ} {ds : Digits} (d : Bool) (hook : Hook Digits) → Exchange h ds hook
+    → Exchange h (d ∷ ds) (led d hook)
+exchange-led true hook e =
+    record { lower = e .lower; same-ones = ap suc (e .same-ones); same-length = ap suc (e .same-length) }
+exchange-led false hook e =
+    record { lower = omega arith; same-ones = e .same-ones; same-length = ap suc (e .same-length) }
+
+-- a hook of length h keeps the number of digits, and the degree falls by h
+pub exchanges : (h : ℕ) (ds : Digits) → Each (Exchange h ds) (hooks h ds)
+unfolding hooks
+exchanges zero ds = tt
+exchanges (suc between) [] = tt
+exchanges (suc between) (true ∷ ds) =
+    each-map (Exchange (suc between) ds) _ (led true) (hooks (suc between) ds)
+    (exchange-led true) (exchanges (suc between) ds)
+exchanges (suc between) (false ∷ ds) =
+    each-append (Exchange (suc between) (false ∷ ds)) (hookOver (take between ds) (drop between ds)) _
+    (exchange-first between ds)
+    (each-map (Exchange (suc between) ds) _ (led false) (hooks (suc between) ds)
+    (exchange-led false) (exchanges (suc between) ds))
+
+-- ---- how many hooks there are
+few-over : (between after : Digits)
+    → (length (hookOver between after) ≤ 1) × (length (hookOver between after) ≤ ones after)
+few-over between [] = (omega arith, omega arith)
+few-over between (false ∷ after) = (omega arith, omega arith)
+few-over between (true ∷ after) = (omega arith, omega arith)
+
+ones-drop : (n : ℕ) (ds : Digits) → ones (drop n ds) ≤ ones ds
+ones-drop zero ds = omega arith
+ones-drop (suc n) [] = omega arith
+ones-drop (suc n) (true ∷ ds) = omega (arith, ones-drop n ds)
+ones-drop (suc n) (false ∷ ds) = ones-drop n ds
+
+-- a row has one hook of a length at most
+pub hooks-rows : (h : ℕ) (ds : Digits) → length (hooks h ds) ≤ length (rows ds)
+unfolding hooks
+hooks-rows zero ds = omega arith
+hooks-rows (suc between) [] = omega arith
+hooks-rows (suc between) (true ∷ ds) =
+    rw (length-map (hooks (suc between) ds) (led true)) (hooks-rows (suc between) ds)
+hooks-rows (suc between) (false ∷ ds) =
+    let few = few-over (take between ds) (drop between ds) in
+    let rest = hooks-rows (suc between) ds in
+    rw (length-append (hookOver (take between ds) (drop between ds)) _, length-map (hooks (suc between) ds) (led false))
+    (elim (ℕ-discrete (ones ds) 0) [
+      | yes e ↦ rw (eq-eqb (ones ds) 0 e) (omega (arith, ones-drop between ds, ap length (rows-none ds e)))
+      | no f ↦ rw (ne-eqb (ones ds) 0 f) (omega arith)
+    ])
+
+pub hooks-few : (h : ℕ) (ds : Digits) → length (hooks h ds) ≤ degree (rows ds)
+hooks-few h ds = le-trans (hooks-rows h ds) (length-degree (rows ds) (rows-partition ds))
+
+-- ---- leading ones shifted out
+-- a zero is then in front, so the word is good
+pub word-shifted : (n : ℕ) (ds : Digits) → word (suc n) (shifted ds) < 2 ^ n
+unfolding word
+word-shifted n [] = pow-pos n
+word-shifted n (true ∷ ds) = word-shifted n ds
+word-shifted n (false ∷ ds) = word-below n ds
+
+pub length-shifted : (ds : Digits) → length (shifted ds) ≤ length ds
+length-shifted [] = omega arith
+length-shifted (true ∷ ds) = omega (arith, length-shifted ds)
+length-shifted (false ∷ ds) = omega arith
+
+pub rows-shifted : (ds : Digits) → rows (shifted ds) ≡ rows ds
+rows-shifted [] = refl
+rows-shifted (true ∷ ds) = cc (rows-shifted ds)
+rows-shifted (false ∷ ds) = refl
+
+pub pairs-shifted : (ds : Digits) → pairs (shifted ds) ≡ pairs ds
+pairs-shifted ds = degree-pairs (shifted ds) ∙ ap degree (rows-shifted ds) ∙ sym (degree-pairs ds)
+
+-- the degree of what is left
+pub exchange-degree : (h : ℕ) (ds : Digits) (hook : Hook Digits) → Exchange h ds hook
+    → degree (rows (shifted (hook .leaves))) + h ≡ degree (rows ds)
+exchange-degree h ds hook e =
+    omega (arith, degree-pairs (shifted (hook .leaves)), pairs-shifted (hook .leaves), degree-pairs ds)

@@ -1,0 +1,161 @@
+-- The hook rule: any cycle of the class may be struck by its hooks (document 01, "Hook of length h").
+-- A struck beta-number lands on a one, on a zero, or below all digits; the first is a hook, the others count nothing.
+--   counts f hook    what the hook counts, with its sign, where beta-numbers l count f l
+--   AsLong ds hook   the hook leaves as many digits as ds has
+use mathlib.Core.Path.{_≡_, refl, sym, _∙_, ap, fun-ext}
+use Prim.Native.Nat.{_<_, _≤_}
+use native.Mathlib.Decide.{decLt, ℕ-discrete}
+use native.Mathlib.Omega.{arith}
+use borrow.Author.Tests.{lt-ltb, le-ltb, eq-eqb, ne-eqb}
+use lib.Dec.{eqb·suc-zero}
+use lib.ListN.{length-append, length-map, length-drop, take-append-drop, drop-of-length-le}
+use lib.Seq.{drop-cons, split-at}
+use lib.IntN.{negℤ-negℤ, +ℤ-idr}
+use Rattle.theory.specs.Basics.{Bool, true, false, not, List, [], _∷_, _++_, map, take, drop, length, getD}
+use Rattle.theory.specs.Basics.{ℕ, zero, suc, _-_, ℤ, pos, negsuc, _-ℤ_, negℤ, odd, sum}
+use Rattle.theory.specs.Basics.Laws.{odd-suc, Each, each-append, each-map, sum-same, sum-append, sum-map}
+use Rattle.theory.specs.Partition.{Parts, times, without}
+use Rattle.theory.specs.Partition.Laws.{NoZero, none, some, split}
+use Rattle.theory.specs.Digits.{Digits, zeros}
+use Rattle.theory.specs.ShapeWord.{rows}
+use Rattle.theory.specs.Character.{_on_}
+use Rattle.theory.specs.Character.Alternating.{here, Alternating, alternating-after, ZeroBelow, raisedBy}
+use Rattle.theory.specs.Character.Alternating.{twice-zero}
+use Rattle.theory.specs.Character.Lowered.{lowered, lowered-cons}
+use Rattle.theory.specs.Character.Counted.{counted, counted-alternating, counted-zero-below, counted-any}
+use Rattle.theory.specs.Hooks.{Hook, led, hookOver, hooks, shifted, signed}
+use Rattle.theory.specs.Hooks.Betas.{digitBetas, length-digitBetas, digitBetas-append, digitBetas-shifted}
+use Rattle.theory.specs.Hooks.Betas.{rows-counted}
+
+-- ---- a beta-number that is struck
+signed-not : (minus : Bool) (z : ℤ) → signed (not minus) z ≡ negℤ (signed minus z)
+signed-not true z = sym (negℤ-negℤ z)
+signed-not false z = refl
+
+signed-zero : (minus : Bool) → signed minus (pos 0) ≡ pos 0
+signed-zero true = refl
+signed-zero false = refl
+
+-- an entry moved behind the entries p: each turns the sign
+moved : (f : List ℤ → ℤ) → Alternating f → (x : ℤ) (p q : List ℤ)
+    → f (x ∷ (p ++ q)) ≡ signed (odd (length p)) (f (p ++ (x ∷ q)))
+moved f alternating x [] q = refl
+moved f alternating x (y ∷ p) q =
+    rw (odd-suc (length p), signed-not (odd (length p)) (f (y ∷ (p ++ (x ∷ q)))))
+    (alternating _ _ (here y x (p ++ q)) ∙ ap negℤ (moved (λ t. f (y ∷ t)) (alternating-after f y alternating) x p q))
+
+abbrev counts : (List ℤ → ℤ) → Hook Digits → ℤ
+counts f hook = signed (hook .minus) (f (digitBetas (hook .leaves)))
+
+module _ (f : List ℤ → ℤ) (alternating : Alternating f) where
+  -- it passes the zeros of b
+  passed : (x : ℤ) (b a : Digits) → f (x ∷ digitBetas (b ++ a))
+      ≡ signed (odd (zeros b)) (f (raisedBy (length a) (digitBetas b) ++ (x ∷ digitBetas a)))
+  passed x b a =
+      let p : List ℤ = raisedBy (length a) (digitBetas b) in
+      let e : length p ≡ zeros b = length-map (digitBetas b) _ ∙ length-digitBetas b in
+      rw (digitBetas-append b a, ← e) (moved f alternating x p (digitBetas a))
+
+  -- it lands on the digit d between b and a
+  landed : (b : Digits) (d : Bool) (a : Digits)
+      → f (pos (length a) ∷ digitBetas (b ++ (d ∷ a))) ≡ sum (counts f) (hookOver b (d ∷ a))
+  landed b true a =
+      passed (pos (length a)) b (true ∷ a)
+      ∙ ap (λ l. signed (odd (zeros b)) (f l)) (sym (digitBetas-append b (false ∷ a)))
+      ∙ sym (+ℤ-idr (signed (odd (zeros b)) (f (digitBetas (b ++ (false ∷ a))))))
+  landed b false a =
+      let p : List ℤ = raisedBy (suc (length a)) (digitBetas b) in
+      passed (pos (length a)) b (false ∷ a)
+      ∙ ap (signed (odd (zeros b))) (twice-zero f alternating p (pos (length a)) (digitBetas a))
+      ∙ signed-zero (odd (zeros b))
+
+struck-above : (n h : ℕ) → h < n → pos n -ℤ pos (suc h) ≡ pos (n - suc h)
+struck-above n h l = rw (le-ltb n (suc h) l)
+
+struck-below : (n h : ℕ) → n ≤ h → pos n -ℤ pos (suc h) ≡ negsuc (suc h - suc n)
+struck-below n h l = rw (lt-ltb n (suc h) (omega arith))
+
+struck-zero : (f : List ℤ → ℤ) → Alternating f → ZeroBelow f → (h : ℕ) (ds : Digits)
+    → f ((pos (length ds) -ℤ pos (suc h)) ∷ digitBetas ds) ≡ sum (counts f) (hookOver (take h ds) (drop h ds))
+struck-zero f alternating below h ds = elim (decLt h (length ds)) [
+  | yes l ↦ rw (struck-above (length ds) h l, drop-cons ds h false l, ← (length-drop (suc h) ds))
+      (ap (λ t. f (pos (length (drop (suc h) ds)) ∷ digitBetas t)) (split-at ds h false l)
+      ∙ landed f alternating (take h ds) (getD ds h false) (drop (suc h) ds))
+  | no g ↦
+      let l : length ds ≤ h = omega arith in
+      rw (struck-below (length ds) h l, drop-of-length-le ds {i = h} l)
+      (below [] (suc h - suc (length ds)) (digitBetas ds))
+]
+
+-- ---- the hooks
+abbrev AsLong : Digits → Hook Digits → Type 0
+AsLong ds hook = length (hook .leaves) ≡ length ds
+
+over-as-long : (b a : Digits) → Each (AsLong (false ∷ (b ++ a))) (hookOver b a)
+over-as-long b [] = tt
+over-as-long b (false ∷ a) = tt
+over-as-long b (true ∷ a) = (ap suc (length-append b (false ∷ a) ∙ sym (length-append b (true ∷ a))), tt)
+
+led-as-long : (d : Bool) (ds : Digits) (hs : List (Hook Digits)) → Each (AsLong ds) hs
+    → Each (AsLong (d ∷ ds)) (map (led d) hs)
+led-as-long d ds hs e = each-map (AsLong ds) (AsLong (d ∷ ds)) (led d) hs (λ hook k. ap suc k) e
+
+hooks-as-long : (h : ℕ) (ds : Digits) → Each (AsLong ds) (hooks h ds)
+unfolding hooks
+hooks-as-long zero ds = tt
+hooks-as-long (suc h) [] = tt
+hooks-as-long (suc h) (true ∷ ds) = led-as-long true ds (hooks (suc h) ds) (hooks-as-long (suc h) ds)
+hooks-as-long (suc h) (false ∷ ds) =
+    each-append (AsLong (false ∷ ds)) (hookOver (take h ds) (drop h ds)) (map (led false) (hooks (suc h) ds))
+    (rw (take-append-drop h ds) at (over-as-long (take h ds) (drop h ds)))
+    (led-as-long false ds (hooks (suc h) ds) (hooks-as-long (suc h) ds))
+
+lowered-hooks : (f : List ℤ → ℤ) → Alternating f → ZeroBelow f → (h : ℕ) (ds : Digits)
+    → lowered (suc h) f (digitBetas ds) ≡ sum (counts f) (hooks (suc h) ds)
+unfolding hooks
+lowered-hooks f alternating below h [] = unfold lowered in refl
+lowered-hooks f alternating below h (true ∷ ds) =
+    lowered-hooks f alternating below h ds ∙ sym (sum-map (counts f) (led true) (hooks (suc h) ds))
+lowered-hooks f alternating below h (false ∷ ds) = rw (
+  lowered-cons (suc h) f (pos (length ds)) (digitBetas ds),
+  struck-zero f alternating below h ds,
+  lowered-hooks (λ t. f (pos (length ds) ∷ t)) (alternating-after f _ alternating)
+      (λ p n q. below (pos (length ds) ∷ p) n q) h ds,
+  sum-append (counts f) (hookOver (take h ds) (drop h ds)) (map (led false) (hooks (suc h) ds)),
+  sum-map (counts f) (led false) (hooks (suc h) ds),
+  sum-same (AsLong ds) (λ hook. counts f (led false hook)) (counts (λ t. f (pos (length ds) ∷ t))) (hooks (suc h) ds)
+      (λ hook e. ap (λ n. signed (hook .minus) (f (pos n ∷ digitBetas (hook .leaves)))) e) (hooks-as-long (suc h) ds),
+)
+
+-- ---- the rule
+times-zero : {c : Parts} → NoZero c → times 0 c ≡ 0
+times-zero none = refl
+times-zero (some {p = p} k) = rw (eqb·suc-zero p) (times-zero k)
+
+pub no-zero-without : (m : ℕ) {c : Parts} → NoZero c → NoZero (without m c)
+no-zero-without m none = none
+no-zero-without m (some {p = p} k) = elim (ℕ-discrete (suc p) m) [
+  | yes e ↦ rw (eq-eqb (suc p) m e) k
+  | no f ↦ rw (ne-eqb (suc p) m f) (some (no-zero-without m k))
+]
+
+pub hook-rule : (h : ℕ) (c : Parts) → NoZero c → (times h c ≡ 0 → ⊥) → (ds : Digits)
+    → rows ds on c ≡ sum (λ hook. signed (hook .minus) (rows (shifted (hook .leaves)) on without h c)) (hooks h ds)
+hook-rule zero c k occurs ds = absurd (occurs (times-zero k))
+hook-rule (suc h) c k occurs ds =
+    rows-counted c k ds ∙ ap (λ g. g (digitBetas ds)) struck-first
+    ∙ lowered-hooks (counted rest) (counted-alternating rest) (counted-zero-below rest) h ds
+    ∙ ap (λ g. sum g (hooks (suc h) ds)) (fun-ext (λ hook. ap (signed (hook .minus)) (left (hook .leaves))))
+  where
+    rest : Parts
+    rest = without (suc h) c
+
+    struck-first : counted c ≡ lowered (suc h) (counted rest)
+    struck-first =
+        let s = split (suc h) c occurs in
+        rw (s .left) (ap counted (s .whole) ∙ counted-any (s .before) (suc h) (s .behind))
+
+    left : (ds : Digits) → counted rest (digitBetas ds) ≡ rows (shifted ds) on rest
+    left ds =
+        ap (counted rest) (sym (digitBetas-shifted ds))
+        ∙ sym (rows-counted rest (no-zero-without (suc h) k) (shifted ds))

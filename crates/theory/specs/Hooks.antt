@@ -42,8 +42,10 @@ shifted (true ∷ ds) = shifted ds
 shifted (false ∷ ds) = false ∷ ds
 
 unfoldable pub hookWords : ℕ → ℕ → List (Hook ℕ)
-hookWords h w =
-    map (λ hook. record { minus = hook .minus; leaves = word width (shifted (hook .leaves)) }) (hooks h (digits width w))
+hookWords h w = map good (hooks h (digits width w))
+  where
+    good : Hook Digits → Hook ℕ
+    good hook = record { minus = hook .minus; leaves = word width (shifted (hook .leaves)) }
 
 abbrev pub signed : Bool → ℤ → ℤ
 signed true z = negℤ z

@@ -1,9 +1,11 @@
 -- The listing (document 01, "Listing").
 --   partitions k most n   the partitions of n into at most k parts, none above most: the first part goes down from most
 --   listing n             all partitions of n, in decreasing lexicographic order
+--   Before l m            decreasing lexicographic order: at the first place where they differ, l has the larger part
 --   rank ps               how many stand before ps in the listing of its degree
 --   partitionCounts       how many partitions the degrees 0 to 16 have, a list of constants
 --   column class          the values of a class for all shapes of its degree, in listing order
+use Prim.Native.Nat.{_<_}
 use Rattle.theory.specs.Basics.{Bool, true, false, cond, _&&_, List, [], _∷_, map}
 use Rattle.theory.specs.Basics.{ℕ, zero, suc, _-_, ℤ, _=?_, _≤?_, keep, joined, downFrom}
 use Rattle.theory.specs.Partition.{Parts, degree}
@@ -22,6 +24,10 @@ partitions (suc k) most (suc n) =
 
 unfoldable pub listing : ℕ → List Parts
 listing n = partitions n n n
+
+pub data Before : Parts → Parts → Type 0 where
+  larger : {p q : ℕ} {l m : Parts} → q < p → Before (p ∷ l) (q ∷ m)
+  later : {p : ℕ} {l m : Parts} → Before l m → Before (p ∷ l) (p ∷ m)
 
 unfoldable pub partitionCounts : List ℕ
 partitionCounts =

@@ -2,11 +2,12 @@
 --   Each P xs   P holds of each element of xs
 use mathlib.Core.Path.{_≡_, refl, sym, _∙_, ap}
 use mathlib.Core.Bool.{false≢true}
+use mathlib.Core.List.{List·Memᴰ, List·Memᴰ·head, List·Memᴰ·tail}
 use native.Mathlib.Omega.{arith}
 use lib.Dec.{eqb}
 use lib.IntN.{+ℤ-idl, +ℤ-assoc}
-use Rattle.theory.specs.Basics.{Bool, true, false, not, _&&_, List, [], _∷_, _++_, map, ℕ, zero, suc, _+_, _%_}
-use Rattle.theory.specs.Basics.{ℤ, _+ℤ_, odd, sum}
+use Rattle.theory.specs.Basics.{Bool, true, false, not, cond, _&&_, List, [], _∷_, _++_, map, length, ℕ, zero}
+use Rattle.theory.specs.Basics.{suc, _+_, _*_, _%_, ℤ, _+ℤ_, odd, keep, count, total, sum}
 
 -- ---- tests
 pub both : (a b : Bool) → a && b ≡ true → (a ≡ true) × (b ≡ true)
@@ -39,6 +40,26 @@ module _ {A : Type 0} where
   each-same P Q [] f e = tt
   each-same P Q (x ∷ xs) f e = (f x (e .0), each-same P Q xs f (e .1))
 
+  pub each-member : (P : A → Type 0) (xs : List A) → ((x : A) → List·Memᴰ x xs → P x) → Each P xs
+  each-member P [] e = tt
+  each-member P (x ∷ xs) e = (e x (List·Memᴰ·head refl), each-member P xs (λ y m. e y (List·Memᴰ·tail m)))
+
+  pub each-of : (P : A → Type 0) (xs : List A) → Each P xs → (x : A) → List·Memᴰ x xs → P x
+  each-of P (y ∷ xs) e x (List·Memᴰ·head q) = rw q (e .0)
+  each-of P (y ∷ xs) e x (List·Memᴰ·tail m) = each-of P xs (e .1) x m
+
+  -- ---- counts and totals
+  pub count-append : (test : A → Bool) (xs ys : List A) → count test (xs ++ ys) ≡ count test xs + count test ys
+  count-append test [] ys = omega arith
+  count-append test (x ∷ xs) ys =
+      let e = count-append test xs ys in
+      elim (test x) as (λ b. length (cond b (x ∷ keep test (xs ++ ys)) (keep test (xs ++ ys)))
+      ≡ length (cond b (x ∷ keep test xs) (keep test xs)) + count test ys) [ true ↦ omega arith | false ↦ e ]
+
+  pub total-same : (f : A → ℕ) (n : ℕ) (xs : List A) → Each (λ x. f x ≡ n) xs → total (map f xs) ≡ length xs * n
+  total-same f n [] e = omega arith
+  total-same f n (x ∷ xs) e = omega (arith, e .0, total-same f n xs (e .1))
+
   -- ---- sums
   pub sum-same : (P : A → Type 0) (f g : A → ℤ) (xs : List A) → ((x : A) → P x → f x ≡ g x) → Each P xs
       → sum f xs ≡ sum g xs
@@ -54,6 +75,11 @@ module _ {A B : Type 0} where
       → Each Q (map f xs)
   each-map P Q f [] g e = tt
   each-map P Q f (x ∷ xs) g e = (g x (e .0), each-map P Q f xs g (e .1))
+
+  pub map-same : (P : A → Type 0) (f g : A → B) (xs : List A) → ((x : A) → P x → f x ≡ g x) → Each P xs
+      → map f xs ≡ map g xs
+  map-same P f g [] e h = refl
+  map-same P f g (x ∷ xs) e h = rw (e x (h .0), map-same P f g xs e (h .1))
 
   pub sum-map : (f : B → ℤ) (g : A → B) (xs : List A) → sum f (map g xs) ≡ sum (λ x. f (g x)) xs
   sum-map f g [] = refl

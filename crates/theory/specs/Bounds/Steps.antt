@@ -3,18 +3,14 @@
 use mathlib.Core.Path.{_≡_}
 use Prim.Native.Nat.{_≤_}
 use native.Mathlib.Omega.{arith}
-use Rattle.theory.specs.Basics.{List, [], _∷_, map, length, ℕ, _+_, _-_, _*_, total}
-use Rattle.theory.specs.Basics.Laws.{Each, each-same}
+use Rattle.theory.specs.Basics.{map, length, ℕ, _+_, _-_, _*_, total}
+use Rattle.theory.specs.Basics.Laws.{each-same, total-same}
 use Rattle.theory.specs.Partition.{degree}
 use Rattle.theory.specs.ShapeWord.{shapeOf}
 use Rattle.theory.specs.Hooks.{Hook, hookWords}
 use Rattle.theory.specs.Hooks.Words.{Left, hooks-leave, hooks-few}
 use Rattle.theory.specs.Bounds.{factorial, S}
 use Rattle.theory.specs.Bounds.Laws.{factorial-share, S-share}
-
-total-same : {A : Type 0} (f : A → ℕ) (n : ℕ) (xs : List A) → Each (λ x. f x ≡ n) xs → total (map f xs) ≡ length xs * n
-total-same f n [] e = omega arith
-total-same f n (x ∷ xs) e = omega (arith, e .0, total-same f n xs (e .1))
 
 module _ (h w : ℕ) where
   -- what goes by the degree alone is the same for each hook

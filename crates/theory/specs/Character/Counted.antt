@@ -1,12 +1,10 @@
 -- What a class counts at beta-numbers: its cycles are struck, with no rule but that the ground counts.
 --   counted c l   the sum over all ways to strike the cycles of c from l
 use mathlib.Core.Path.{_≡_, refl, sym, _∙_, ap, fun-ext}
-use native.Mathlib.Decide.{ℕ-discrete}
 use native.Mathlib.Omega.{arith}
-use borrow.Author.Tests.{eq-eqb, ne-eqb}
-use Rattle.theory.specs.Basics.{List, [], _∷_, _++_, ℕ, suc, _+_, ℤ}
+use Rattle.theory.specs.Basics.{List, [], _∷_, _++_, ℕ, ℤ}
 use Rattle.theory.specs.Partition.{Parts, times}
-use Rattle.theory.specs.Partition.Laws.{NoZero, none, some, Split, split}
+use Rattle.theory.specs.Partition.Laws.{NoZero, none, some, Split, split, times-own, times-cons, times-middle}
 use Rattle.theory.specs.Character.Alternating.{Alternating, ZeroBelow, Stable}
 use Rattle.theory.specs.Character.Lowered.{lowered, lowered-lowered, lowered-alternating, lowered-zero-below}
 use Rattle.theory.specs.Character.Lowered.{lowered-stable}
@@ -34,20 +32,6 @@ counted-stable c (some {p = p} {ps = ps} k) =
 pub counted-any : (p : Parts) (m : ℕ) (q : Parts) → counted (p ++ (m ∷ q)) ≡ lowered m (counted (p ++ q))
 counted-any [] m q = refl
 counted-any (n ∷ p) m q = ap (lowered n) (counted-any p m q) ∙ fun-ext (λ l. lowered-lowered n m (counted (p ++ q)) l)
-
-times-cons : (n m : ℕ) (c : Parts) → times n (m ∷ c) ≡ times n (m ∷ []) + times n c
-times-cons n m c = elim (ℕ-discrete m n) [
-  | yes e ↦ rw (eq-eqb m n e) (omega arith)
-  | no f ↦ rw (ne-eqb m n f) (omega arith)
-]
-
-times-middle : (n m : ℕ) (p q : Parts) → times n (p ++ (m ∷ q)) ≡ times n (m ∷ []) + times n (p ++ q)
-times-middle n m [] q = times-cons n m q
-times-middle n m (r ∷ p) q =
-    omega (arith, times-cons n r (p ++ (m ∷ q)), times-cons n r (p ++ q), times-middle n m p q)
-
-times-own : (m : ℕ) (c : Parts) → times m (m ∷ c) ≡ suc (times m c)
-times-own m c = rw (eq-eqb m m refl) refl
 
 pub counted-order : (c d : Parts) → ((m : ℕ) → times m c ≡ times m d) → counted c ≡ counted d
 counted-order [] [] e = refl

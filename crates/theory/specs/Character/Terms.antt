@@ -2,7 +2,7 @@
 --   Holds P t   P holds of what t holds, if it holds anything
 use mathlib.Core.Path.{_≡_, refl, sym, ap}
 use lib.IntN.{negℤ-negℤ}
-use Rattle.theory.specs.Basics.{List, [], _∷_, ℕ, zero, suc, ℤ, pos, negsuc, _+ℤ_, _-ℤ_, negℤ}
+use Rattle.theory.specs.Basics.{List, _∷_, ℕ, zero, suc, ℤ, pos, negsuc, _+ℤ_, _-ℤ_, negℤ}
 use Rattle.theory.specs.Character.{Term, nothing, plus, minus, turn, then, before, value, sink}
 
 module _ {A : Type 0} where

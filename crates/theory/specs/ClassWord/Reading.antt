@@ -1,7 +1,7 @@
 -- Reading a class word (document 01, "Reading counts leading zeros again and again"), at any width W: 31 of a 32-bit
 -- word, 63 of a 64-bit word. Leading zeros give the next part, trailing zeros the degree.
---   Next W at x z b   the next part when `at` of the W digits have been read and the number x is left: z are the leading
---                     zeros of x, b is the one behind them, the part is z - at; b comes off, and z digits have been read
+--   Next W at x z b   the next part when `at` of the W digits are read and the number x is left: z are the leading
+--                     zeros of x, b is the one behind them, the part is z - at; b comes off, and z digits are read
 --   Shifted W x z     the same where x stands at the top: the part is z + 1, and two shifts take it out
 use mathlib.Core.Path.{_≡_, refl, ap, ap₂, _∙_}
 use Prim.Native.Nat.{_≤_, _<_}

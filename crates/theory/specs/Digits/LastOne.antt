@@ -7,20 +7,12 @@ use native.Mathlib.Decide.{ℕ-discrete}
 use native.Mathlib.Nat.{pos-of-ne-zero}
 use native.Mathlib.Omega.{arith}
 use borrow.Author.Tests.{eq-eqb, ne-eqb}
-use Rattle.theory.specs.Basics.{Bool, true, false, cond, List, [], _∷_, _++_, ℕ, zero, suc, _+_}
-use Rattle.theory.specs.Basics.{length, replicate, keep, count}
-use Rattle.theory.specs.Digits.{Digits, word, ones, upToLastOne}
+use Rattle.theory.specs.Basics.{Bool, true, false, [], _∷_, _++_, ℕ, zero, suc, _+_, length, replicate}
+use Rattle.theory.specs.Basics.Laws.{count-append}
+use Rattle.theory.specs.Digits.{Digits, word, ones, zeros, upToLastOne}
 use Rattle.theory.specs.Digits.Laws.{filled, word-filled}
 
 -- ---- ones
-module _ {A : Type 0} (test : A → Bool) where
-  pub count-append : (xs ys : List A) → count test (xs ++ ys) ≡ count test xs + count test ys
-  count-append [] ys = omega arith
-  count-append (x ∷ xs) ys =
-      let e = count-append xs ys in
-      elim (test x) as (λ b. length (cond b (x ∷ keep test (xs ++ ys)) (keep test (xs ++ ys)))
-      ≡ length (cond b (x ∷ keep test xs) (keep test xs)) + count test ys) [ true ↦ omega arith | false ↦ e ]
-
 pub ones-append : (ds es : Digits) → ones (ds ++ es) ≡ ones ds + ones es
 ones-append = count-append (λ d. d)
 
@@ -31,6 +23,11 @@ ones-run (suc k) ds = omega (arith, ones-run k ds)
 pub ones-none : (n : ℕ) → ones (replicate n false) ≡ 0
 ones-none zero = refl
 ones-none (suc n) = ones-none n
+
+pub ones-zeros : (ds : Digits) → ones ds + zeros ds ≡ length ds
+ones-zeros [] = refl
+ones-zeros (true ∷ ds) = omega (arith, ones-zeros ds)
+ones-zeros (false ∷ ds) = omega (arith, ones-zeros ds)
 
 -- ---- up to the last one
 pub last-none : (ds : Digits) → ones ds ≡ 0 → upToLastOne ds ≡ []

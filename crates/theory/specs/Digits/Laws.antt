@@ -86,8 +86,10 @@ pub digits-word : (n : ℕ) (ds : Digits) → digits n (word n ds) ≡ filled n 
 unfolding digits word filled
 digits-word zero ds = refl
 digits-word (suc n) [] = digits-none (suc n)
-digits-word (suc n) (false ∷ ds) = digits-zero n (word n ds) (word-below n ds) ∙ ap {B = Digits} (λ l. false ∷ l) (digits-word n ds)
-digits-word (suc n) (true ∷ ds) = digits-one n (word n ds) (word-below n ds) ∙ ap {B = Digits} (λ l. true ∷ l) (digits-word n ds)
+digits-word (suc n) (false ∷ ds) =
+    digits-zero n (word n ds) (word-below n ds) ∙ ap {B = Digits} (λ l. false ∷ l) (digits-word n ds)
+digits-word (suc n) (true ∷ ds) =
+    digits-one n (word n ds) (word-below n ds) ∙ ap {B = Digits} (λ l. true ∷ l) (digits-word n ds)
 
 pub word-digits : (n x : ℕ) → x < 2 ^ n → word n (digits n x) ≡ x
 unfolding digits word

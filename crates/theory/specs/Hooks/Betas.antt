@@ -9,7 +9,9 @@ use Rattle.theory.specs.Basics.{ℕ, zero, suc, _+_, ℤ, pos, _=?_}
 use Rattle.theory.specs.Partition.{Parts}
 use Rattle.theory.specs.Partition.Laws.{NoZero}
 use Rattle.theory.specs.Digits.{Digits, ones, zeros}
+use Rattle.theory.specs.Digits.LastOne.{ones-zeros}
 use Rattle.theory.specs.ShapeWord.{rows}
+use Rattle.theory.specs.ShapeWord.Laws.{rows-none}
 use Rattle.theory.specs.Character.{_on_}
 use Rattle.theory.specs.Character.Alternating.{raisedBy}
 use Rattle.theory.specs.Character.Counted.{counted, counted-stable}
@@ -35,15 +37,10 @@ digitBetas-append (false ∷ b) a = rw (length-append b a, digitBetas-append b a
 
 pub digitBetas-shifted : (ds : Digits) → digitBetas (shifted ds) ≡ digitBetas ds
 digitBetas-shifted [] = refl
-digitBetas-shifted (true ∷ ds) = digitBetas-shifted ds
+digitBetas-shifted (true ∷ ds) = cc (digitBetas-shifted ds)
 digitBetas-shifted (false ∷ ds) = refl
 
 -- ---- the rows of digits
-rows-none : (ds : Digits) → ones ds ≡ 0 → rows ds ≡ []
-rows-none [] e = refl
-rows-none (true ∷ ds) e = absurd (omega arith)
-rows-none (false ∷ ds) e = rw e refl
-
 rows-positive : (ds : Digits) → PositiveFirst (map pos (rows ds))
 rows-positive [] = tt
 rows-positive (true ∷ ds) = rows-positive ds
@@ -52,11 +49,6 @@ rows-positive (false ∷ ds) = go (ones ds)
     go : (n : ℕ) → PositiveFirst (map pos (cond (n =? 0) [] (n ∷ rows ds)))
     go zero = tt
     go (suc n) = rw (eqb·suc-zero n) (n, refl)
-
-ones-zeros : (ds : Digits) → ones ds + zeros ds ≡ length ds
-ones-zeros [] = refl
-ones-zeros (true ∷ ds) = omega (arith, ones-zeros ds)
-ones-zeros (false ∷ ds) = omega (arith, ones-zeros ds)
 
 row-betas : (ds : Digits) (l : List ℤ) → digitBetas ds ≡ betas l → digitBetas (false ∷ ds) ≡ betas (pos (ones ds) ∷ l)
 row-betas ds l e =

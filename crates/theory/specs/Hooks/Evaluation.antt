@@ -2,16 +2,20 @@
 -- it comes to is the character (document 01, "The character", first paragraph; "Hook of length h").
 --   Evaluation c ds x   by hooks, the shape of the digits ds comes to x on the class c
 use mathlib.Core.Path.{_≡_, refl, sym, _∙_, ap}
-use mathlib.Core.List.{List·Memᴰ, List·Memᴰ·head, List·Memᴰ·tail}
-use Rattle.theory.specs.Basics.{List, [], _∷_, ℕ, ℤ, pos, sum}
-use Rattle.theory.specs.Basics.Laws.{Each, sum-same}
-use Rattle.theory.specs.Partition.{Parts, times, without}
-use Rattle.theory.specs.Partition.Laws.{NoZero}
+use mathlib.Core.List.{List·Memᴰ}
+use native.Mathlib.Omega.{arith}
+use borrow.Author.Tests.{eq-eqb}
+use Rattle.theory.specs.Basics.{[], _∷_, length, ℕ, suc, ℤ, pos, sum}
+use Rattle.theory.specs.Basics.Laws.{each-member, each-of, sum-same}
+use Rattle.theory.specs.Partition.{Parts, degree, times, without}
+use Rattle.theory.specs.Partition.Laws.{NoZero, none, some, no-zero-without, times-own, length-degree}
 use Rattle.theory.specs.Digits.{Digits}
 use Rattle.theory.specs.ShapeWord.{rows}
+use Rattle.theory.specs.ShapeWord.Laws.{rows-partition}
 use Rattle.theory.specs.Character.{character, _on_}
 use Rattle.theory.specs.Hooks.{Hook, hooks, shifted, signed}
-use Rattle.theory.specs.Hooks.Rule.{no-zero-without, hook-rule}
+use Rattle.theory.specs.Hooks.Laws.{Exchange, exchanges, exchange-degree}
+use Rattle.theory.specs.Hooks.Rule.{hook-rule}
 
 pub data Evaluation : Parts → Digits → ℤ → Type 0 where
   -- no cycle is left, and no row
@@ -21,10 +25,6 @@ pub data Evaluation : Parts → Digits → ℤ → Type 0 where
       → ((hook : Hook Digits) → List·Memᴰ hook (hooks h ds)
       → Evaluation (without h c) (shifted (hook .leaves)) (f hook))
       → Evaluation c ds (sum (λ hook. signed (hook .minus) (f hook)) (hooks h ds))
-
-each-member : {A : Type 0} (P : A → Type 0) (xs : List A) → ((x : A) → List·Memᴰ x xs → P x) → Each P xs
-each-member P [] e = tt
-each-member P (x ∷ xs) e = (e x (List·Memᴰ·head refl), each-member P xs (λ y m. e y (List·Memᴰ·tail m)))
 
 pub evaluated : {c : Parts} {ds : Digits} {x : ℤ} → Evaluation c ds x → NoZero c → x ≡ rows ds on c
 unfolding character
@@ -38,3 +38,24 @@ evaluated (strike h c ds f occurs evaluations) k =
     (each-member (λ hook. f hook ≡ rows (shifted (hook .leaves)) on without h c) (hooks h ds)
     (λ hook m. evaluated (evaluations hook m) (no-zero-without h k)))
     ∙ sym (hook-rule h c k occurs ds)
+
+-- and there is one, wherever the degrees agree
+no-rows : (rs : Parts) → length rs ≡ 0 → rs ≡ []
+no-rows [] e = refl
+no-rows (r ∷ rs) e = absurd (omega arith)
+
+pub evaluates : {c : Parts} → NoZero c → (ds : Digits) → degree (rows ds) ≡ degree c → Evaluation c ds (rows ds on c)
+unfolding character
+evaluates none ds e =
+    let empty = no-rows (rows ds) (omega (arith, length-degree (rows ds) (rows-partition ds))) in
+    rw empty (done ds empty)
+evaluates (some {p = p} {ps = ps} k) ds e =
+    let h : ℕ = suc p in
+    let c : Parts = h ∷ ps in
+    let occurs : times h c ≡ 0 → ⊥ = λ z. omega (arith, times-own h ps) in
+    let rest : without h c ≡ ps = rw (eq-eqb h h refl) refl in
+    rw (hook-rule h c (some k) occurs ds)
+    (strike h c ds (λ hook. rows (shifted (hook .leaves)) on without h c) occurs
+    (λ hook m.
+    let x = each-of (Exchange h ds) (hooks h ds) (exchanges h ds) hook m in
+    rw rest (evaluates k (shifted (hook .leaves)) (omega (arith, exchange-degree h ds hook x)))))

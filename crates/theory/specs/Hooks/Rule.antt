@@ -1,21 +1,19 @@
 -- The hook rule: any cycle of the class may be struck by its hooks (document 01, "Hook of length h").
 -- A struck beta-number lands on a one, on a zero, or below all digits; the first is a hook, the others count nothing.
 --   counts f hook    what the hook counts, with its sign, where beta-numbers l count f l
---   AsLong ds hook   the hook leaves as many digits as ds has
 use mathlib.Core.Path.{_≡_, refl, sym, _∙_, ap, fun-ext}
 use Prim.Native.Nat.{_<_, _≤_}
-use native.Mathlib.Decide.{decLt, ℕ-discrete}
+use native.Mathlib.Decide.{decLt}
 use native.Mathlib.Omega.{arith}
-use borrow.Author.Tests.{lt-ltb, le-ltb, eq-eqb, ne-eqb}
-use lib.Dec.{eqb·suc-zero}
-use lib.ListN.{length-append, length-map, length-drop, take-append-drop, drop-of-length-le}
+use borrow.Author.Tests.{lt-ltb, le-ltb}
+use lib.ListN.{length-map, length-drop, drop-of-length-le}
 use lib.Seq.{drop-cons, split-at}
 use lib.IntN.{negℤ-negℤ, +ℤ-idr}
 use Rattle.theory.specs.Basics.{Bool, true, false, not, List, [], _∷_, _++_, map, take, drop, length, getD}
 use Rattle.theory.specs.Basics.{ℕ, zero, suc, _-_, ℤ, pos, negsuc, _-ℤ_, negℤ, odd, sum}
-use Rattle.theory.specs.Basics.Laws.{odd-suc, Each, each-append, each-map, sum-same, sum-append, sum-map}
+use Rattle.theory.specs.Basics.Laws.{odd-suc, sum-same, sum-append, sum-map}
 use Rattle.theory.specs.Partition.{Parts, times, without}
-use Rattle.theory.specs.Partition.Laws.{NoZero, none, some, split}
+use Rattle.theory.specs.Partition.Laws.{NoZero, split, no-zero-without, times-zero}
 use Rattle.theory.specs.Digits.{Digits, zeros}
 use Rattle.theory.specs.ShapeWord.{rows}
 use Rattle.theory.specs.Character.{_on_}
@@ -24,6 +22,7 @@ use Rattle.theory.specs.Character.Alternating.{twice-zero}
 use Rattle.theory.specs.Character.Lowered.{lowered, lowered-cons}
 use Rattle.theory.specs.Character.Counted.{counted, counted-alternating, counted-zero-below, counted-any}
 use Rattle.theory.specs.Hooks.{Hook, led, hookOver, hooks, shifted, signed}
+use Rattle.theory.specs.Hooks.Laws.{Exchange, exchanges}
 use Rattle.theory.specs.Hooks.Betas.{digitBetas, length-digitBetas, digitBetas-append, digitBetas-shifted}
 use Rattle.theory.specs.Hooks.Betas.{rows-counted}
 
@@ -88,28 +87,6 @@ struck-zero f alternating below h ds = elim (decLt h (length ds)) [
 ]
 
 -- ---- the hooks
-abbrev AsLong : Digits → Hook Digits → Type 0
-AsLong ds hook = length (hook .leaves) ≡ length ds
-
-over-as-long : (b a : Digits) → Each (AsLong (false ∷ (b ++ a))) (hookOver b a)
-over-as-long b [] = tt
-over-as-long b (false ∷ a) = tt
-over-as-long b (true ∷ a) = (ap suc (length-append b (false ∷ a) ∙ sym (length-append b (true ∷ a))), tt)
-
-led-as-long : (d : Bool) (ds : Digits) (hs : List (Hook Digits)) → Each (AsLong ds) hs
-    → Each (AsLong (d ∷ ds)) (map (led d) hs)
-led-as-long d ds hs e = each-map (AsLong ds) (AsLong (d ∷ ds)) (led d) hs (λ hook k. ap suc k) e
-
-hooks-as-long : (h : ℕ) (ds : Digits) → Each (AsLong ds) (hooks h ds)
-unfolding hooks
-hooks-as-long zero ds = tt
-hooks-as-long (suc h) [] = tt
-hooks-as-long (suc h) (true ∷ ds) = led-as-long true ds (hooks (suc h) ds) (hooks-as-long (suc h) ds)
-hooks-as-long (suc h) (false ∷ ds) =
-    each-append (AsLong (false ∷ ds)) (hookOver (take h ds) (drop h ds)) (map (led false) (hooks (suc h) ds))
-    (rw (take-append-drop h ds) at (over-as-long (take h ds) (drop h ds)))
-    (led-as-long false ds (hooks (suc h) ds) (hooks-as-long (suc h) ds))
-
 lowered-hooks : (f : List ℤ → ℤ) → Alternating f → ZeroBelow f → (h : ℕ) (ds : Digits)
     → lowered (suc h) f (digitBetas ds) ≡ sum (counts f) (hooks (suc h) ds)
 unfolding hooks
@@ -123,22 +100,13 @@ lowered-hooks f alternating below h (false ∷ ds) = rw (
       (λ p n q. below (pos (length ds) ∷ p) n q) h ds,
   sum-append (counts f) (hookOver (take h ds) (drop h ds)) (map (led false) (hooks (suc h) ds)),
   sum-map (counts f) (led false) (hooks (suc h) ds),
-  sum-same (AsLong ds) (λ hook. counts f (led false hook)) (counts (λ t. f (pos (length ds) ∷ t))) (hooks (suc h) ds)
-      (λ hook e. ap (λ n. signed (hook .minus) (f (pos n ∷ digitBetas (hook .leaves)))) e) (hooks-as-long (suc h) ds),
+  sum-same (Exchange (suc h) ds) (λ hook. counts f (led false hook)) (counts (λ t. f (pos (length ds) ∷ t)))
+      (hooks (suc h) ds)
+      (λ hook e. ap (λ n. signed (hook .minus) (f (pos n ∷ digitBetas (hook .leaves)))) (e .same-length))
+      (exchanges (suc h) ds),
 )
 
 -- ---- the rule
-times-zero : {c : Parts} → NoZero c → times 0 c ≡ 0
-times-zero none = refl
-times-zero (some {p = p} k) = rw (eqb·suc-zero p) (times-zero k)
-
-pub no-zero-without : (m : ℕ) {c : Parts} → NoZero c → NoZero (without m c)
-no-zero-without m none = none
-no-zero-without m (some {p = p} k) = elim (ℕ-discrete (suc p) m) [
-  | yes e ↦ rw (eq-eqb (suc p) m e) k
-  | no f ↦ rw (ne-eqb (suc p) m f) (some (no-zero-without m k))
-]
-
 pub hook-rule : (h : ℕ) (c : Parts) → NoZero c → (times h c ≡ 0 → ⊥) → (ds : Digits)
     → rows ds on c ≡ sum (λ hook. signed (hook .minus) (rows (shifted (hook .leaves)) on without h c)) (hooks h ds)
 hook-rule zero c k occurs ds = absurd (occurs (times-zero k))

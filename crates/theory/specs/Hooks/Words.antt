@@ -1,14 +1,14 @@
 -- Hooks of words (document 01, "Hook of length h"; "so that the word is again a good one"), for any word w.
 --   wordOf hook     the hook with the word of what it leaves
 --   Left h w hook   the hook leaves a good word, whose degree is less than that of w by h
-use mathlib.Core.Path.{_≡_, refl, sym, _∙_, ap}
+use mathlib.Core.Path.{_≡_, sym, _∙_, ap}
 use mathlib.Core.List.{map-map}
 use Prim.Native.Nat.{_≤_}
 use native.Mathlib.Omega.{arith}
 use lib.ListN.{length-map}
 use borrow.Author.Tests.{lt-ltb}
-use Rattle.theory.specs.Basics.{true, List, [], _∷_, map, length, ℕ, _+_, _^_, sum}
-use Rattle.theory.specs.Basics.Laws.{Each, each-map, sum-map, sum-same}
+use Rattle.theory.specs.Basics.{true, map, length, ℕ, _+_, _^_, sum}
+use Rattle.theory.specs.Basics.Laws.{Each, each-map, map-same, sum-map, sum-same}
 use Rattle.theory.specs.Partition.{Parts, degree, times, without}
 use Rattle.theory.specs.Partition.Laws.{NoZero}
 use Rattle.theory.specs.Digits.{Digits, digits, word, width}
@@ -34,11 +34,6 @@ pub rows-left : (n : ℕ) (ds : Digits) → length ds ≤ n → rows (digits n (
 rows-left n ds l =
     ap rows (digits-word n (shifted ds))
     ∙ rows-filled n (shifted ds) (omega (arith, length-last (last (shifted ds)), length-shifted ds))
-
-map-same : {A B : Type 0} (P : A → Type 0) (f g : A → B) (xs : List A) → ((x : A) → P x → f x ≡ g x) → Each P xs
-    → map f xs ≡ map g xs
-map-same P f g [] e h = refl
-map-same P f g (x ∷ xs) e h = rw (e x (h .0), map-same P f g xs e (h .1))
 
 module _ (h w : ℕ) where
   abbrev Taken : Hook Digits → Type 0

@@ -1,6 +1,5 @@
 -- The listing is in decreasing lexicographic order, and class words rise along it.
 --   Fits p n ps    ps is a partition of n whose parts are at most p
---   Before l m     at the first place where they differ l has the larger part
 --   Falling list   each of the list stands before all that follow it
 use mathlib.Core.Path.{_≡_, refl}
 use Prim.Native.Nat.{_≤_, _<_}
@@ -15,7 +14,7 @@ use Rattle.theory.specs.Digits.{word}
 use Rattle.theory.specs.Digits.Laws.{word-below}
 use Rattle.theory.specs.ClassWord.{classDigits}
 use Rattle.theory.specs.ClassWord.Front.{word-front}
-use Rattle.theory.specs.Listing.{listing}
+use Rattle.theory.specs.Listing.{listing, Before, larger, later}
 use Rattle.theory.specs.Listing.Laws.{most, Built, done, stuck, too-large, fork, built}
 
 -- ---- each of the list is a partition
@@ -47,10 +46,6 @@ each-fits (fork {p = p} {n = n} {with-p = with-p} {below = below} h a b) =
     (each-same (Fits p (suc n)) (Fits (suc p) (suc n)) below fits-more (each-fits b))
 
 -- ---- in order
-pub data Before : Parts → Parts → Type 0 where
-  larger : {p q : ℕ} {l m : Parts} → q < p → Before (p ∷ l) (q ∷ m)
-  later : {p : ℕ} {l m : Parts} → Before l m → Before (p ∷ l) (p ∷ m)
-
 abbrev pub Falling : List Parts → Type 0
 Falling [] = Unit {0}
 Falling (l ∷ list) = Each (Before l) list × Falling list

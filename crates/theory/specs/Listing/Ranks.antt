@@ -14,10 +14,10 @@ use Rattle.theory.specs.Basics.{true, false, List, [], _∷_, _++_, map,
 use Rattle.theory.specs.Basics.Places.{each-at, map-at}
 use Rattle.theory.specs.Partition.{Parts, isPartition, degree}
 use Rattle.theory.specs.Partition.Laws.{front, first-degree}
-use Rattle.theory.specs.Listing.{listing, same, rankIn, rank}
+use Rattle.theory.specs.Listing.{listing, same, rankIn, rank, Before, larger, later}
 use Rattle.theory.specs.Listing.Laws.{most, countMost, Built, done, stuck, too-large, fork, built, length-built}
 use Rattle.theory.specs.Listing.Laws.{count-too-large, count-fork, count-monotone}
-use Rattle.theory.specs.Listing.Order.{Fits, fits-bound, fits-at, Before, larger, later, Falling, falling}
+use Rattle.theory.specs.Listing.Order.{Fits, fits-bound, fits-at, Falling, falling}
 
 unfoldable pub rankFrom : ℕ → ℕ → Parts → ℕ
 rankFrom p n [] = 0

@@ -7,6 +7,7 @@ use mathlib.Core.Bool.{false≢true}
 use Prim.Native.Nat.{_<_, _≤_}
 use native.Mathlib.Decide.{ℕ-discrete}
 use native.Mathlib.Omega.{arith}
+use lib.Dec.{eqb·suc-zero}
 use borrow.Author.Tests.{leb-true, ltb-true, le-leb, lt-ltb, eq-eqb, ne-eqb}
 use Rattle.theory.specs.Basics.{true, _&&_, [], _∷_, _++_, ℕ, zero, suc, _+_, length, _<?_, _≤?_}
 use Rattle.theory.specs.Basics.Laws.{both}
@@ -110,3 +111,29 @@ without-partition m (p ∷ ps) e =
             rest = without-partition m ps (f .rest);
           }))
     ]
+
+pub no-zero-without : (m : ℕ) {ps : Parts} → NoZero ps → NoZero (without m ps)
+no-zero-without m none = none
+no-zero-without m (some {p = p} k) = elim (ℕ-discrete (suc p) m) [
+  | yes e ↦ rw (eq-eqb (suc p) m e) k
+  | no f ↦ rw (ne-eqb (suc p) m f) (some (no-zero-without m k))
+]
+
+-- ---- how often a part occurs
+pub times-zero : {ps : Parts} → NoZero ps → times 0 ps ≡ 0
+times-zero none = refl
+times-zero (some {p = p} k) = rw (eqb·suc-zero p) (times-zero k)
+
+pub times-own : (m : ℕ) (ps : Parts) → times m (m ∷ ps) ≡ suc (times m ps)
+times-own m ps = rw (eq-eqb m m refl) refl
+
+pub times-cons : (m p : ℕ) (ps : Parts) → times m (p ∷ ps) ≡ times m (p ∷ []) + times m ps
+times-cons m p ps = elim (ℕ-discrete p m) [
+  | yes e ↦ rw (eq-eqb p m e) (omega arith)
+  | no f ↦ rw (ne-eqb p m f) (omega arith)
+]
+
+pub times-middle : (m p : ℕ) (ps qs : Parts) → times m (ps ++ (p ∷ qs)) ≡ times m (p ∷ []) + times m (ps ++ qs)
+times-middle m p [] qs = times-cons m p qs
+times-middle m p (r ∷ ps) qs =
+    omega (arith, times-cons m r (ps ++ (p ∷ qs)), times-cons m r (ps ++ qs), times-middle m p ps qs)

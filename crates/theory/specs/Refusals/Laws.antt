@@ -5,7 +5,7 @@ use mathlib.Core.Path.{_≡_, refl}
 use Prim.Native.Nat.{_≤_}
 use native.Mathlib.Omega.{arith}
 use borrow.Author.Tests.{ltb-false, not-false, eqb-true, ltb-true}
-use Rattle.theory.specs.Basics.{Bool, true, false, cond, _&&_, List, [], _∷_, _++_, ℕ, zero, suc, _=?_, _<?_, every}
+use Rattle.theory.specs.Basics.{Bool, true, false, cond, List, [], _∷_, _++_, ℕ, zero, suc, _=?_, _<?_, every}
 use Rattle.theory.specs.Basics.Laws.{Each, both}
 use Rattle.theory.specs.Partition.{degree}
 use Rattle.theory.specs.ShapeWord.{goodShape, shapeOf}
@@ -79,11 +79,10 @@ pub record Matched (limit s c : ℕ) : Type 0 where
 pub matched : (limit s c : ℕ) → firstOf (pairRows limit s c) ≡ 0 → Matched limit s c
 matched limit s c e =
     let a = none-applies (pairRows limit s c) refl e in
+    let m : ℕ = degree (shapeOf s) in
+    let n : ℕ = degree (classOf c) in
     record {
-      shape = record { good = not-false (goodShape s) (a .0); small = ltb-false limit (degree (shapeOf s)) (a .1 .1 .0) };
-      class = record {
-        good = not-false (goodClass c) (a .1 .0);
-        small = ltb-false limit (degree (classOf c)) (a .1 .1 .1 .0);
-      };
-      degrees = eqb-true (degree (shapeOf s)) (degree (classOf c)) (not-false (degree (shapeOf s) =? degree (classOf c)) (a .1 .1 .1 .1 .0));
+      shape = record { good = not-false (goodShape s) (a .0); small = ltb-false limit m (a .1 .1 .0) };
+      class = record { good = not-false (goodClass c) (a .1 .0); small = ltb-false limit n (a .1 .1 .1 .0) };
+      degrees = eqb-true m n (not-false (m =? n) (a .1 .1 .1 .1 .0));
     }

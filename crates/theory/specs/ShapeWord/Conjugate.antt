@@ -13,12 +13,13 @@ use lib.ListN.{length-map, length-reverse}
 use borrow.Author.Tests.{le-leb, lt-leb, lt-ltb, ltb-true}
 use Rattle.theory.specs.Basics.{Bool, true, false, not, [], _∷_, _++_, map, reverse, ℕ, zero, suc, _+_, _^_}
 use Rattle.theory.specs.Basics.{length, _≤?_, count, downFrom}
+use Rattle.theory.specs.Basics.Laws.{count-append}
 use Rattle.theory.specs.Partition.{Parts, first, isPartition, degree, transposed}
 use Rattle.theory.specs.Partition.Laws.{front}
 use Rattle.theory.specs.Digits.{Digits, digits, word, ones, zeros, upToLastOne, width}
 use Rattle.theory.specs.Digits.Laws.{digits-word, digits-zero, word-digits, word-below, length-digits}
 use Rattle.theory.specs.Digits.LastOne.{LastOne, none, some, last, last-one, last-zero, last-filled, ends-one}
-use Rattle.theory.specs.Digits.LastOne.{ones-last, length-last, word-last, count-append, ones-append}
+use Rattle.theory.specs.Digits.LastOne.{ones-last, length-last, word-last, ones-append}
 use Rattle.theory.specs.ShapeWord.{rows, pairs, conjugate, shapeOf, conjugateWord, goodShape}
 use Rattle.theory.specs.ShapeWord.Laws.{rows-none, rows-zero, rows-last, rows-filled, first-rows, rows-partition}
 use Rattle.theory.specs.ShapeWord.Laws.{degree-pairs}

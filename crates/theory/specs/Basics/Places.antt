@@ -1,9 +1,12 @@
 -- What stands at a place of a list.
+--   tabled f i ns   whether the table ns has f i, f (i + 1), .. : the rule of a table as one test, which computes
 use mathlib.Core.Path.{_≡_, refl}
 use Prim.Native.Nat.{_<_}
+use native.Mathlib.Nat.{zero-add, add-zero, add-suc, suc-add}
 use native.Mathlib.Omega.{arith}
-use Rattle.theory.specs.Basics.{List, [], _∷_, map, ℕ, zero, suc, length, getD}
-use Rattle.theory.specs.Basics.Laws.{Each}
+use borrow.Author.Tests.{eqb-true}
+use Rattle.theory.specs.Basics.{Bool, true, _&&_, List, [], _∷_, map, ℕ, zero, suc, _+_, length, getD, _=?_}
+use Rattle.theory.specs.Basics.Laws.{Each, both}
 
 pub each-at : {A : Type 0} (P : A → Type 0) (xs : List A) (d : A) (i : ℕ) → Each P xs → i < length xs → P (getD xs i d)
 each-at P [] d i e h = absurd (omega arith)
@@ -15,3 +18,16 @@ pub map-at : {A B : Type 0} (f : A → B) (xs : List A) (d : A) (e : B) (i : ℕ
 map-at f [] d e i h = absurd (omega arith)
 map-at f (x ∷ xs) d e zero h = refl
 map-at f (x ∷ xs) d e (suc i) h = map-at f xs d e i (omega arith)
+
+abbrev pub tabled : (ℕ → ℕ) → ℕ → List ℕ → Bool
+tabled f i [] = true
+tabled f i (n ∷ ns) = n =? f i && tabled f (suc i) ns
+
+tabled-from : (f : ℕ → ℕ) (ns : List ℕ) (i k : ℕ) → tabled f i ns ≡ true → k < length ns → getD ns k 0 ≡ f (i + k)
+tabled-from f [] i k t h = absurd (omega arith)
+tabled-from f (n ∷ ns) i zero t h = rw add-zero (eqb-true n (f i) (both (n =? f i) _ t .0))
+tabled-from f (n ∷ ns) i (suc k) t h =
+    rw (add-suc, ← suc-add) (tabled-from f ns (suc i) k (both (n =? f i) _ t .1) (omega arith))
+
+pub tabled-at : (f : ℕ → ℕ) (ns : List ℕ) (k : ℕ) → tabled f 0 ns ≡ true → k < length ns → getD ns k 0 ≡ f k
+tabled-at f ns k t h = rw zero-add at (tabled-from f ns 0 k t h)

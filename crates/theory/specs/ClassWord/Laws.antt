@@ -86,6 +86,15 @@ good-below {w} g =
     let b = not-true (bit 31 w) (both (not (bit 31 w)) _ (g .accepted) .0) in
     omega (arith, g .below, eqb-false (w / 2 ^ 31 % 2) 1 b)
 
+-- a number of 31 digits is good where its parts are a partition, one with bit 31 never
+pub good-of-below : (w : ℕ) → w < 2 ^ width → goodClass w ≡ isPartition (classOf w)
+good-of-below w h = rw (div-eq-of-lt h)
+
+pub bad-above : (w : ℕ) → 2 ^ width ≤ w → w < 2 ^ 32 → goodClass w ≡ false
+bad-above w l h =
+    let one : w / 2 ^ 31 % 2 ≡ 1 = omega arith in
+    rw one
+
 pub class-held : {w : ℕ} → GoodClass w → Held (classOf w)
 class-held {w} g = record {
   partition = both (not (bit 31 w)) _ (g .accepted) .1;
@@ -103,7 +112,7 @@ word-good {ps} h =
     let l : classWord ps < 2 ^ width = word-below width (classDigits ps) in
     record {
       below = omega arith;
-      accepted = rw (div-eq-of-lt l, class-of-word h) (h .partition);
+      accepted = good-of-below (classWord ps) l ∙ ap isPartition (class-of-word h) ∙ h .partition;
     }
 
 -- one word to a partition, and one partition to a word

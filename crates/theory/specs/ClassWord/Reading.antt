@@ -5,17 +5,17 @@
 --   Shifted W x z     the same where x stands at the top: the part is z + 1, and two shifts take it out
 use mathlib.Core.Path.{_≡_, refl, ap, ap₂, _∙_}
 use Prim.Native.Nat.{_≤_, _<_}
-use native.Mathlib.Nat.{zero-add, add-zero, add-suc, add-comm, suc-sub-suc, one-mul, mul-one, pow-suc, mod-eq-of-lt}
+use native.Mathlib.Nat.{zero-add, add-zero, add-suc, add-comm, suc-sub-suc, mul-one, pow-suc}
 use native.Mathlib.Nat.{lt-of-lt-of-le, lt-of-le-of-lt, lt-of-not-le, not-le-of-lt}
 use native.Mathlib.Numerals.{add-one}
 use native.Mathlib.Omega.{arith}
-use lib.Pow.{pow-pos, pow-mono, pow-lt, pow-add, shl-lt}
+use lib.Pow.{pow-pos, pow-mono, pow-add, shl-lt}
 use lib.Count.{leadingZeros, leading-top, trailingZeros}
 use Rattle.theory.specs.Basics.{true, false, [], _∷_, _++_, ℕ, zero, suc, _+_, _-_, _*_, _/_, _%_, _^_}
 use Rattle.theory.specs.Basics.{length, drop}
 use Rattle.theory.specs.Partition.{Parts, degree}
 use Rattle.theory.specs.Digits.{Digits, digits}
-use Rattle.theory.specs.Digits.Laws.{digits-rest, digits-one, length-digits}
+use Rattle.theory.specs.Digits.Laws.{one-shifted, digits-rest, digits-one, length-digits}
 use Rattle.theory.specs.Digits.Low.{digits-last, low-zero, low-one, lowest-digit}
 use Rattle.theory.specs.ClassWord.{partsAfter}
 use Rattle.theory.specs.ClassWord.Laws.{parts-front}
@@ -37,7 +37,7 @@ next W at x p h = go (leadingZeros (suc W) x) (leading-top (suc W) x p (lt-of-lt
         → Next W at x z (1 * 2 ^ (W - z) % 2 ^ suc W)
     go z (j, e, lo, hi) =
         let digit : W - z ≡ j = omega arith in
-        let b : 1 * 2 ^ (W - z) % 2 ^ suc W ≡ 2 ^ j = rw (digit, one-mul) (mod-eq-of-lt (pow-lt (omega arith))) in
+        let b : 1 * 2 ^ (W - z) % 2 ^ suc W ≡ 2 ^ j = rw digit (one-shifted (suc W) j (omega arith)) in
         let unread : j < W - at = lt-of-not-le (λ (g : W - at ≤ j). not-le-of-lt (lt-of-le-of-lt lo h) (pow-mono g)) in
         let below : x - 2 ^ j < 2 ^ j = omega arith in
         let n : W - at ≡ suc (W - at - suc j + j) = omega arith in

@@ -3,12 +3,12 @@
 use mathlib.Core.Path.{_≡_, refl, sym, _∙_, ap}
 use mathlib.Core.Logic.{_⊎_, inl, inr, ⊎-elim}
 use Prim.Native.Nat.{_<_}
-use native.Mathlib.Nat.{div-eq-of-lt, zero-add}
+use native.Mathlib.Nat.{div-eq-of-lt, mod-eq-of-lt, one-mul, zero-add}
 use native.Mathlib.Decide.{decLt}
 use native.Mathlib.Numerals.{add-one}
 use native.Mathlib.Omega.{arith}
 use lib.Dec.{eqb}
-use lib.Pow.{pow-pos, high, low, field, mod-mod-pow}
+use lib.Pow.{pow-pos, pow-lt, high, low, field, mod-mod-pow}
 use Rattle.theory.specs.Basics.{true, false, [], _∷_, ℕ, zero, suc, _+_, _-_, _*_, _/_, _%_, _^_, length}
 use Rattle.theory.specs.Digits.{Digits, bit, digits, word}
 
@@ -18,6 +18,10 @@ filled (suc n) [] = false ∷ filled n []
 filled (suc n) (d ∷ ds) = d ∷ filled n ds
 
 -- ---- digits of a number
+-- a one shifted by k, within n bits
+pub one-shifted : (n k : ℕ) → k < n → 1 * 2 ^ k % 2 ^ n ≡ 2 ^ k
+one-shifted n k h = rw one-mul (mod-eq-of-lt (pow-lt h))
+
 low-bit : (d n x : ℕ) → bit n (x % 2 ^ (suc d + n)) ≡ bit n x
 low-bit d n x =
     let e : x / 2 ^ n % 2 ^ suc d % 2 ≡ x / 2 ^ n % 2 = rw (← add-one d) (mod-mod-pow (x / 2 ^ n) d 1) in

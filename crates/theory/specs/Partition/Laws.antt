@@ -2,14 +2,14 @@
 --   Front p ps   what isPartition says of a first part p and the parts ps behind it
 --   NoZero ps    no part is 0
 --   Split m ps   where m stands among the parts: those before it and those behind it, which are left without it
-use mathlib.Core.Path.{_≡_, refl, ap}
+use mathlib.Core.Path.{_≡_, refl, ap, _∙_}
 use mathlib.Core.Bool.{false≢true}
 use Prim.Native.Nat.{_<_, _≤_}
 use native.Mathlib.Decide.{ℕ-discrete}
 use native.Mathlib.Omega.{arith}
 use lib.Dec.{eqb·suc-zero}
-use borrow.Author.Tests.{leb-true, ltb-true, le-leb, lt-ltb, eq-eqb, ne-eqb}
-use Rattle.theory.specs.Basics.{true, _&&_, [], _∷_, _++_, ℕ, zero, suc, _+_, length, _<?_, _≤?_}
+use borrow.Author.Tests.{leb-true, ltb-true, le-leb, lt-leb, lt-ltb, eq-eqb, ne-eqb}
+use Rattle.theory.specs.Basics.{Bool, true, false, _&&_, [], _∷_, _++_, ℕ, zero, suc, _+_, length, _<?_, _≤?_}
 use Rattle.theory.specs.Basics.Laws.{both}
 use Rattle.theory.specs.Partition.{Parts, first, isPartition, degree, times, without}
 
@@ -25,8 +25,18 @@ front p ps e =
     let b = both (0 <? p) (first ps ≤? p) (a .0) in
     record { positive = ltb-true 0 p (b .0); falls = leb-true (first ps) p (b .1); rest = a .1 }
 
+pub fall : (p : ℕ) (ps : Parts) → 0 < p → first ps ≤ p → isPartition (p ∷ ps) ≡ isPartition ps
+fall p ps h l = rw (lt-ltb 0 p h, le-leb (first ps) p l)
+
+pub rise : (p : ℕ) (ps : Parts) → p < first ps → isPartition (p ∷ ps) ≡ false
+rise p ps l = rw (lt-leb (first ps) p l) (go (0 <? p))
+  where
+    go : (b : Bool) → (b && false) && isPartition ps ≡ false
+    go true = refl
+    go false = refl
+
 pub in-front : {p : ℕ} {ps : Parts} → Front p ps → isPartition (p ∷ ps) ≡ true
-in-front {p} {ps} f = rw (lt-ltb 0 p (f .positive), le-leb (first ps) p (f .falls)) (f .rest)
+in-front {p} {ps} f = fall p ps (f .positive) (f .falls) ∙ f .rest
 
 -- ---- room
 pub length-degree : (ps : Parts) → isPartition ps ≡ true → length ps ≤ degree ps

@@ -1,0 +1,7 @@
+pub mod Answers
+pub mod Factorials
+pub mod PartLists
+pub mod Columns
+pub mod ClassLoops
+pub mod ClassProducts
+pub mod Unique

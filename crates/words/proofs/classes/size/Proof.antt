@@ -1,0 +1,90 @@
+-- `words::classes::size` meets its contract: a factorial of the table, divided.
+use native.Mathlib.Omega.{arith}
+use native.Mathlib.Nat.{div-le-self}
+use mathlib.Core.Path.{ap, ap₂, _∙_}
+use Prim.Native.Nat.{_≤_}
+use borrow.Author.Needs.{needs}
+use Rattle.theory.specs.Basics.{ℕ, pos, _/_, getD}
+use Rattle.theory.specs.Partition.{Parts}
+use Rattle.theory.specs.ClassWord.{classOf}
+use Rattle.theory.specs.ClassData.{classSize}
+use Rattle.theory.specs.ClassData.Laws.{divisor-positive}
+use Rattle.theory.specs.Bounds.{factorial}
+use Rattle.theory.specs.Refusals.{degreeLimit, classRows}
+use Rattle.words.specs.Calls.{sizeOfClass}
+use Rattle.words.proofs.Answers.{PassedClass, refused-is, passed-class, number-refused, number-given}
+use Rattle.words.proofs.Factorials.{factorials, factorial-at, factorial-fits}
+use Rattle.words.proofs.classes.size.Statement.{statement}
+use Rattle.words.proofs.classes.size.Tie as tie
+
+read-requires : tie.Need-read-requires
+read-requires c κs = search needs
+
+refused-requires : tie.Need-refused-requires
+refused-requires c κs = search needs
+
+returns : tie.Need-returns
+unfolding sizeOfClass
+returns c =
+    let a = c .before .before .before in
+    let w : ℕ = a .before .args .word in
+    c .refused .ensures
+    ∙ number-refused (classRows degreeLimit w) _ _ (refused-is _ _ _ (a .read .ensures)) (c .before .if1 .taken)
+
+abbrev class : tie.Else1 → Parts
+class c = classOf (c .before .before .before .args .word)
+
+passes : (c : tie.Else1) → PassedClass (c .before .before .before .args .word) (c .before .before .read .result)
+passes c = passed-class _ _ (omega arith) (c .before .before .read .ensures) (c .if1 .left)
+
+cast-degree : tie.Need-cast-degree
+cast-degree c = search needs
+
+mul-given : tie.Need-mul-given
+mul-given c = search needs
+
+array-read-given : tie.Need-array-read-given
+array-read-given c = omega (arith, passes (c .before))
+
+divisor-requires : tie.Need-divisor-requires
+divisor-requires c κs =
+    let p = passes (c .before) in
+    (p .below, p .partition, p .small)
+
+div-given : tie.Need-div-given
+div-given c =
+    let e = c .before .before in
+    omega (arith, c .divisor .ensures, divisor-positive (class e) (passes e .partition))
+
+given-requires : tie.Need-given-requires
+given-requires c κs =
+    let p = passes (c .before .before) in
+    let d : ℕ = c .before .before .before .before .read .result .degree in
+    let small : d ≤ degreeLimit = omega arith in
+    omega (arith, div-le-self (getD factorials d 0) (c .divisor .result), factorial-at d small, factorial-fits d small)
+
+returns-2 : tie.Need-returns-2
+unfolding sizeOfClass classSize
+returns-2 c =
+    let e = c .before .before .before in
+    let w : ℕ = e .before .before .before .args .word in
+    let p = passes e in
+    let d : ℕ = e .before .before .read .result .degree in
+    let table = factorial-at d (omega arith) ∙ ap factorial (p .found .degree) in
+    let divided = ap₂ _/_ table (c .before .divisor .ensures) in
+    c .given .ensures ∙ number-given (classRows degreeLimit w) _ _ (p .found .none) (ap pos divided)
+
+pub size-spec : {M : Type 1} → statement M
+size-spec =
+    tie.close
+    (tie.spec
+    read-requires
+    refused-requires
+    returns
+    cast-degree
+    mul-given
+    array-read-given
+    divisor-requires
+    div-given
+    given-requires
+    returns-2)

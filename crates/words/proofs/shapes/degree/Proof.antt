@@ -1,0 +1,48 @@
+-- `words::shapes::degree` meets its contract: it gives the degree that the reader found.
+use mathlib.Core.Path.{_∙_, ap}
+use borrow.Author.Needs.{needs}
+use Rattle.theory.specs.Basics.{pos}
+use Rattle.theory.specs.Partition.{degree}
+use Rattle.theory.specs.ShapeWord.{shapeOf}
+use Rattle.theory.specs.Refusals.{degreeLimit, shapeRows}
+use Rattle.words.specs.Calls.{shapeDegree}
+use Rattle.words.proofs.Answers.{Passed, passed, refused-is, number-refused, number-given}
+use Rattle.words.proofs.shapes.degree.Statement.{statement}
+use Rattle.words.proofs.shapes.degree.Tie as tie
+
+pass : (c : tie.Else1)
+    → let w = c .before .before .before .args .word in
+    Passed (shapeRows degreeLimit w) (shapeOf w) (c .before .before .read .result)
+pass c = passed _ _ _ (c .before .before .read .ensures) (c .if1 .left)
+
+read-requires : tie.Need-read-requires
+read-requires c κs = search needs
+
+refused-requires : tie.Need-refused-requires
+refused-requires c κs = search needs
+
+returns : tie.Need-returns
+unfolding shapeDegree
+returns c =
+    let a = c .before .before .before in
+    let w = a .before .args .word in
+    let e = refused-is (shapeRows degreeLimit w) (shapeOf w) (a .read .result) (a .read .ensures) in
+    c .refused .ensures
+    ∙ number-refused (shapeRows degreeLimit w) (pos (degree (shapeOf w))) _ e (c .before .if1 .taken)
+
+cast-given : tie.Need-cast-given
+cast-given c = search needs
+
+given-requires : tie.Need-given-requires
+given-requires c κs = search needs
+
+returns-2 : tie.Need-returns-2
+unfolding shapeDegree
+returns-2 c =
+    let w = c .before .before .before .before .before .args .word in
+    let p = pass (c .before .before) in
+    c .given .ensures
+    ∙ number-given (shapeRows degreeLimit w) (pos (degree (shapeOf w))) _ (p .none) (ap pos (p .degree))
+
+pub degree-spec : {M : Type 1} → statement M
+degree-spec = tie.close (tie.spec read-requires refused-requires returns cast-given given-requires returns-2)

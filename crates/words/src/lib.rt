@@ -1,0 +1,56 @@
+// Partitions as words of 32 bits: part lists and words turned into each other by Comet's two methods, and what a word
+// tells. Every call takes every input; a refused word or number is 0, and a refused call writes nothing.
+
+ghost use mathlib.Core.Path.{_≡_};
+ghost use Prim.Native.Nat.{_<_, _^_};
+ghost use Rattle.theory.specs.Basics.{pos};
+ghost use Rattle.words.specs.Answers.{numberAnswer};
+
+pub mod classes;
+mod lists;
+pub mod shapes;
+
+pub struct WordAnswer {
+    pub refused: u8,
+    pub word: u32,
+}
+
+pub struct NumberAnswer {
+    pub refused: u8,
+    pub number: i64,
+}
+
+// How many parts were written to the front of a lent column.
+pub struct CountAnswer {
+    pub refused: u8,
+    pub count: usize,
+}
+
+// What the reader of a shape word or of a class word finds: why it is refused, or its degree and how many parts it has.
+struct Seen {
+    refused: u8,
+    degree: u32,
+    count: u32,
+}
+
+// The greatest degree.
+const LIMIT: u32 = 16;
+
+fn refused(number: u8) -> NumberAnswer
+    ensures { λ r. ⌜ r ≡ numberAnswer number (pos 0) ⌝ }
+{
+    NumberAnswer {
+        refused: number,
+        number: 0,
+    }
+}
+
+fn given(number: u64) -> NumberAnswer
+    requires { ⌜ number < 2 ^ 63 ⌝ }
+    ensures { λ r. ⌜ r ≡ numberAnswer 0 (pos number) ⌝ }
+{
+    NumberAnswer {
+        refused: 0,
+        number: number as i64,
+    }
+}

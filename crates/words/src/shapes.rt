@@ -1,0 +1,208 @@
+// Shape words (document 01, "Shape word" and "Conjugate").
+ghost use mathlib.Core.Path.{_≡_};
+ghost use mathlib.Core.Bool.{true};
+ghost use mathlib.Core.List.{_++_};
+ghost use Prim.Native.Nat.{_<_, _≤_, _^_};
+ghost use Rattle.theory.specs.Basics.{length, drop};
+ghost use Rattle.theory.specs.Partition.{isPartition, degree};
+ghost use Rattle.theory.specs.ShapeWord.{shapeWord, shapeOf, conjugateWord};
+ghost use Rattle.theory.specs.Refusals.{degreeLimit, shapeRows};
+ghost use Rattle.words.specs.Answers.{Outcome};
+ghost use Rattle.words.specs.Reading.{seen};
+ghost use Rattle.words.specs.Calls.{shapeWordFrom, shapePartsInto, shapeDegree, conjugateShape};
+use super::CountAnswer;
+use super::LIMIT;
+use super::NumberAnswer;
+use super::Seen;
+use super::WordAnswer;
+use super::given;
+use super::lists;
+use super::refused;
+
+// The shape word of a partition within the limit.
+fn bits(parts: &[u8]) -> u32
+    requires { ⌜ (isPartition (now parts) ≡ true) × (degree (now parts) ≤ degreeLimit) ⌝ }
+    ensures { λ r. ⌜ r ≡ shapeWord (now (parts .entry)) ⌝ }
+{
+    let mut left = 31u32;
+    let mut bits = 0u32;
+    let mut i = 0;
+    while i < parts.len() {
+        let more = lists::part_at(parts, i) - lists::part_at(parts, i + 1);
+        let top = left - 1;
+        left = top - more;
+        bits += (1u32 << top) - (1u32 << left);
+        i += 1;
+    }
+    bits
+}
+
+// The shape word of a part list. Refuses 3, then 2.
+pub fn word(parts: &[u8]) -> WordAnswer
+    ensures { λ r. ⌜ r ≡ shapeWordFrom degreeLimit (now (parts .entry)) ⌝ }
+{
+    if !lists::is_partition(parts) {
+        return WordAnswer {
+            refused: 3,
+            word: 0,
+        };
+    }
+    if LIMIT < lists::capped_degree(parts) {
+        return WordAnswer {
+            refused: 2,
+            word: 0,
+        };
+    }
+    WordAnswer {
+        refused: 0,
+        word: bits(parts),
+    }
+}
+
+// The degree of a good shape word: each one is paired with the zeros before it.
+fn pairs(word: u32) -> u32
+    requires { ⌜ word < 2 ^ 31 ⌝ }
+    ensures { λ r. ⌜ r ≡ degree (shapeOf word) ⌝ }
+{
+    let mut rest = word;
+    let mut at = 0u32;
+    let mut zeros = 0u32;
+    let mut pairs = 0u32;
+    while rest != 0 {
+        let one = u32::leading_zeros(rest);
+        zeros += one - at - 1;
+        pairs += zeros;
+        at = one;
+        rest -= 1u32 << (31 - one);
+    }
+    pairs
+}
+
+// How many rows a shape word has: the digits up to its last one that are zeros.
+fn row_count(word: u32) -> u32
+    requires { ⌜ word < 2 ^ 31 ⌝ }
+    ensures { λ r. ⌜ r ≡ length (shapeOf word) ⌝ }
+{
+    if word == 0 {
+        return 0;
+    }
+    31 - u32::trailing_zeros(word) - u32::count_ones(word)
+}
+
+// The one reader of shape words.
+fn read(word: u32) -> Seen
+    ensures { λ r. ⌜ r ≡ seen (shapeRows degreeLimit word) (shapeOf word) ⌝ }
+{
+    if 0x4000_0000 <= word {
+        return Seen {
+            refused: 1,
+            degree: 0,
+            count: 0,
+        };
+    }
+    let degree = pairs(word);
+    if LIMIT < degree {
+        return Seen {
+            refused: 2,
+            degree: 0,
+            count: 0,
+        };
+    }
+    Seen {
+        refused: 0,
+        degree,
+        count: row_count(word),
+    }
+}
+
+// The rows of a word to the front of a column that has room.
+fn put(word: u32, column: &mut [u8])
+    requires { ⌜ (word < 2 ^ 31) × (length (shapeOf word) ≤ length (now column)) ⌝ }
+    ensures { λ _. ⌜ now (column .exit) ≡ shapeOf word ++ drop (length (shapeOf word)) (now (column .entry)) ⌝ }
+{
+    let mut left = 31u32;
+    let mut rest = word;
+    let mut length = u32::count_ones(word);
+    let mut i = 0;
+    while rest != 0 {
+        left -= 1;
+        let one = 1u32 << left;
+        if rest < one {
+            column[i] = length as u8;
+            i += 1;
+        } else {
+            rest -= one;
+            length -= 1;
+        }
+    }
+}
+
+// The rows of a shape word, longest first, to the front of a column; their count is the answer. Refuses 1, 2, then 14.
+pub fn parts(word: u32, column: &mut [u8]) -> CountAnswer
+    ensures { λ r. ⌜ Outcome (shapePartsInto degreeLimit word (now (column .entry))) r (now (column .exit)) ⌝ }
+{
+    let seen = read(word);
+    if seen.refused != 0 {
+        return CountAnswer {
+            refused: seen.refused,
+            count: 0,
+        };
+    }
+    let count = seen.count as usize;
+    if column.len() < count {
+        return CountAnswer {
+            refused: 14,
+            count: 0,
+        };
+    }
+    put(word, column);
+    CountAnswer { refused: 0, count }
+}
+
+// The degree n of a shape word. Refuses 1, then 2.
+pub fn degree(word: u32) -> NumberAnswer
+    ensures { λ r. ⌜ r ≡ shapeDegree degreeLimit word ⌝ }
+{
+    let seen = read(word);
+    if seen.refused != 0 {
+        return refused(seen.refused);
+    }
+    given(seen.degree as u64)
+}
+
+// The digits up to the last one, in reverse order and complemented.
+fn flipped(word: u32) -> u32
+    requires { ⌜ word < 2 ^ 31 ⌝ }
+    ensures { λ r. ⌜ r ≡ conjugateWord word ⌝ }
+{
+    if word == 0 {
+        return 0;
+    }
+    let after = u32::trailing_zeros(word);
+    let mut rest = word >> after;
+    let mut left = 31u32;
+    let mut out = 0u32;
+    while after < left {
+        left -= 1;
+        out += (1 - rest % 2) << left;
+        rest = rest / 2;
+    }
+    out
+}
+
+// The shape word of the conjugate shape. Refuses 1, then 2.
+pub fn conjugate(word: u32) -> WordAnswer
+    ensures { λ r. ⌜ r ≡ conjugateShape degreeLimit word ⌝ }
+{
+    let seen = read(word);
+    if seen.refused != 0 {
+        return WordAnswer {
+            refused: seen.refused,
+            word: 0,
+        };
+    }
+    WordAnswer {
+        refused: 0,
+        word: flipped(word),
+    }
+}

@@ -15,6 +15,7 @@ pub use lib.IntN.{ℤ, pos, negsuc, _+ℤ_, _-ℤ_, _*ℤ_, negℤ, natAbs}
 use lib.Dec.{eqb, ltb, leb}
 pub mod Laws
 pub mod Places
+pub mod Keep
 
 infix 40 _=?_ _<?_ _≤?_
 abbrev pub _=?_ : ℕ → ℕ → Bool

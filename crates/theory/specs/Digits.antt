@@ -10,6 +10,7 @@ use Rattle.theory.specs.Basics.{_=?_, odd, count}
 pub mod Laws
 pub mod LastOne
 pub mod Low
+pub mod Bits
 
 abbrev pub Digits : Type 0
 Digits = List Bool

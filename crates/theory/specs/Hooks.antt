@@ -12,9 +12,11 @@ use Rattle.theory.specs.Digits.{Digits, digits, word, zeros, width}
 pub mod Laws
 pub mod Places
 pub mod Words
+pub mod Signed
 pub mod Betas
 pub mod Rule
 pub mod Evaluation
+pub mod Marks
 
 pub record Hook (A : Type 0) : Type 0 where
   pub minus : Bool

@@ -11,4 +11,3 @@ pub mod ClassData
 pub mod Listing
 pub mod Bounds
 pub mod Refusals
-pub mod Examples

@@ -14,6 +14,7 @@ pub mod Laws
 pub mod Order
 pub mod Ranks
 pub mod Columns
+pub mod Words
 
 unfoldable pub partitions : ℕ → ℕ → ℕ → List Parts
 partitions zero most zero = [] ∷ []

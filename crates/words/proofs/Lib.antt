@@ -1,4 +1,5 @@
 pub mod Answers
+pub mod Callers
 pub mod Factorials
 pub mod PartLists
 pub mod Columns

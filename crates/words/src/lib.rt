@@ -34,7 +34,7 @@ struct Seen {
 }
 
 // The greatest degree.
-const LIMIT: u32 = 16;
+pub const LIMIT: u32 = 16;
 
 fn refused(number: u8) -> NumberAnswer
     ensures { λ r. ⌜ r ≡ numberAnswer number (pos 0) ⌝ }

@@ -40,6 +40,10 @@ module _ {A : Type 0} where
   each-same P Q [] f e = tt
   each-same P Q (x ∷ xs) f e = (f x (e .0), each-same P Q xs f (e .1))
 
+  pub each-both : (P Q : A → Type 0) (xs : List A) → Each P xs → Each Q xs → Each (λ x. P x × Q x) xs
+  each-both P Q [] e f = tt
+  each-both P Q (x ∷ xs) e f = ((e .0, f .0), each-both P Q xs (e .1) (f .1))
+
   pub each-member : (P : A → Type 0) (xs : List A) → ((x : A) → List·Memᴰ x xs → P x) → Each P xs
   each-member P [] e = tt
   each-member P (x ∷ xs) e = (e x (List·Memᴰ·head refl), each-member P xs (λ y m. e y (List·Memᴰ·tail m)))
@@ -75,6 +79,10 @@ module _ {A B : Type 0} where
       → Each Q (map f xs)
   each-map P Q f [] g e = tt
   each-map P Q f (x ∷ xs) g e = (g x (e .0), each-map P Q f xs g (e .1))
+
+  pub each-mapped : (Q : B → Type 0) (f : A → B) (xs : List A) → Each Q (map f xs) → Each (λ x. Q (f x)) xs
+  each-mapped Q f [] e = tt
+  each-mapped Q f (x ∷ xs) e = (e .0, each-mapped Q f xs (e .1))
 
   pub map-same : (P : A → Type 0) (f g : A → B) (xs : List A) → ((x : A) → P x → f x ≡ g x) → Each P xs
       → map f xs ≡ map g xs

@@ -5,13 +5,19 @@ use Prim.Native.Nat.{_<_}
 use native.Mathlib.Nat.{zero-add, add-zero, add-suc, suc-add}
 use native.Mathlib.Omega.{arith}
 use borrow.Author.Tests.{eqb-true}
-use Rattle.theory.specs.Basics.{Bool, true, _&&_, List, [], _∷_, map, ℕ, zero, suc, _+_, length, getD, _=?_}
+use Rattle.theory.specs.Basics.{Bool, true, _&&_, List, [], _∷_, map, ℕ, zero, suc, _+_, length, getD, _=?_, every}
 use Rattle.theory.specs.Basics.Laws.{Each, both}
 
 pub each-at : {A : Type 0} (P : A → Type 0) (xs : List A) (d : A) (i : ℕ) → Each P xs → i < length xs → P (getD xs i d)
 each-at P [] d i e h = absurd (omega arith)
 each-at P (x ∷ xs) d zero e h = e .0
 each-at P (x ∷ xs) d (suc i) e h = each-at P xs d i (e .1) (omega arith)
+
+pub every-at : {A : Type 0} (test : A → Bool) (xs : List A) (d : A) (i : ℕ) → every test xs ≡ true → i < length xs
+    → test (getD xs i d) ≡ true
+every-at test [] d i e h = absurd (omega arith)
+every-at test (x ∷ xs) d zero e h = both (test x) (every test xs) e .0
+every-at test (x ∷ xs) d (suc i) e h = every-at test xs d i (both (test x) (every test xs) e .1) (omega arith)
 
 pub map-at : {A B : Type 0} (f : A → B) (xs : List A) (d : A) (e : B) (i : ℕ) → i < length xs
     → getD (map f xs) i e ≡ f (getD xs i d)

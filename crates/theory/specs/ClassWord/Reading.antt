@@ -2,6 +2,7 @@
 -- word, 63 of a 64-bit word. Leading zeros give the next part, trailing zeros the degree.
 --   Next W at x z b   the next part when `at` of the W digits are read and the number x is left: z are the leading
 --                     zeros of x, b is the one behind them, the part is z - at; b comes off, and z digits are read
+--   Struck W x z      the first part of x is z, its leading zeros: one shift that drops the top bits strikes it
 --   Shifted W x z     the same where x stands at the top: the part is z + 1, and two shifts take it out
 use mathlib.Core.Path.{_≡_, refl, ap, ap₂, _∙_}
 use Prim.Native.Nat.{_≤_, _<_}
@@ -116,3 +117,29 @@ shift-next W x p h = go (leadingZeros (suc W) x) (leading-top (suc W) x p h)
         let size : j + z ≡ W = omega arith in
         let whole : 2 ^ j + (x - 2 ^ j) ≡ x = omega arith in
         rw (size, whole) at (shift-one j z (x - 2 ^ j) (omega arith))
+
+-- ---- striking the first part
+pub record Struck (W x z : ℕ) : Type 0 where
+  pub some : 0 < z
+  pub within : z ≤ W
+  pub reads : partsAfter 0 (digits W x) ≡ z ∷ partsAfter 0 (digits W (x * 2 ^ z % 2 ^ suc W % 2 ^ W))
+
+pub strike : (W x : ℕ) → 0 < x → x < 2 ^ W → Struck W x (leadingZeros (suc W) x)
+strike W x p h = go (leadingZeros (suc W) x) (leading-top (suc W) x p (omega arith))
+  where
+    go : (z : ℕ) → (j : ℕ) × (z + suc j ≡ suc W) × (2 ^ j ≤ x) × (x < 2 ^ suc j) → Struck W x z
+    go z (j, e, lo, hi) =
+        let size : j + z ≡ W = omega arith in
+        let unread : j < W = lt-of-not-le (λ (g : W ≤ j). not-le-of-lt (lt-of-le-of-lt lo h) (pow-mono g)) in
+        let whole : 2 ^ j + (x - 2 ^ j) ≡ x = omega arith in
+        let r : x - 2 ^ j < 2 ^ j = omega arith in
+        let n : suc (z - 1 + j) ≡ W = omega arith in
+        let part : suc (0 + (z - 1)) ≡ z = omega arith in
+        let first = rw (n, whole, part) at (parts-front 0 (z - 1) j (x - 2 ^ j) r) in
+        let out = rw (size, whole) at (one-out j z (x - 2 ^ j) r) in
+        let back = rw size at (parts-shift j z (x - 2 ^ j)) in
+        record {
+          some = omega arith;
+          within = omega arith;
+          reads = rw (digits-rest W (x * 2 ^ z % 2 ^ suc W), out, back) first;
+        }

@@ -45,6 +45,10 @@ length-degree (p ∷ ps) e =
     let f = front p ps e in
     omega (arith, length-degree ps (f .rest))
 
+pub no-degree : (ps : Parts) → isPartition ps ≡ true → degree ps ≡ 0 → ps ≡ []
+no-degree [] e d = refl
+no-degree (p ∷ ps) e d = absurd (omega (arith, front p ps e .positive))
+
 pub first-degree : (ps : Parts) → first ps ≤ degree ps
 first-degree [] = omega arith
 first-degree (p ∷ ps) = omega arith

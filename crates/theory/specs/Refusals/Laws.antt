@@ -1,8 +1,9 @@
 -- What it tells that no row refuses, and what a judgement gives.
 --   Within limit w       a good shape word of a degree within the limit; WithinClass limit w, a good class word
 --   Matched limit s c    a good shape word and a good class word of one degree within the limit
-use mathlib.Core.Path.{_≡_, refl}
+use mathlib.Core.Path.{_≡_, refl, sym, _∙_}
 use Prim.Native.Nat.{_≤_}
+use native.Mathlib.Decide.{ℕ-discrete}
 use native.Mathlib.Omega.{arith}
 use borrow.Author.Tests.{ltb-false, not-false, eqb-true, ltb-true}
 use Rattle.theory.specs.Basics.{Bool, true, false, cond, List, [], _∷_, _++_, ℕ, zero, suc, _=?_, _<?_, every}
@@ -46,6 +47,12 @@ first-refuses (row ∷ rows) more n = go (row .0) n (first-refuses rows more)
         → cond b (row .1) (firstOf (rows ++ more)) ≡ cond b (row .1) (firstOf rows)
     go true n rest = refl
     go false n rest = rest n
+
+pub first-part : (rows more : List Row) → firstOf (rows ++ more) ≡ 0 → firstOf rows ≡ 0
+first-part rows more e = elim (ℕ-discrete (firstOf rows) 0) [
+  | yes z ↦ z
+  | no n ↦ sym (first-refuses rows more n) ∙ e
+]
 
 -- and rows that do not refuse leave it to them
 pub none-refuses : (rows more : List Row) → Each (λ row. row .0 ≡ false) rows → firstOf (rows ++ more) ≡ firstOf more

@@ -1,0 +1,6 @@
+pub mod Judging
+pub mod Signed
+pub mod Walks
+pub mod Places
+pub mod Ranks
+pub mod Unique

@@ -1,0 +1,83 @@
+-- characters::listing::shape_at meets its contract: the words of a degree stand from its start on, in listing order.
+use mathlib.Core.Path.{_≡_, _∙_, ap, ap₂}
+use Prim.Native.Nat.{_<_, _≤_}
+use native.Mathlib.Omega.{arith}
+use borrow.Author.Needs.{needs}
+use Rattle.theory.specs.Basics.{List, ℕ, suc, _+_, length, getD}
+use Rattle.theory.specs.ShapeWord.{shapeWord}
+use Rattle.theory.specs.Listing.{listing}
+use Rattle.theory.specs.Listing.Words.{word-at}
+use Rattle.theory.specs.Refusals.{degreeLimit}
+use Rattle.words.proofs.Answers.{word-refused, word-given}
+use Rattle.characters.specs.Calls.{shapeAt}
+use Rattle.characters.proofs.Places.{index-below}
+use Rattle.characters.proofs.Ranks.{at, rows, Listed, degree-refused, rank-refused, none-refused}
+use Rattle.characters.proofs.listing.shape_at.Statement.{statement}
+use Rattle.characters.proofs.listing.shape_at.Tie as tie
+
+returns : tie.Need-returns
+unfolding shapeAt
+returns c =
+    let a = c .before .args in
+    word-refused (rows (a .degree) (a .rank)) _ 12 (degree-refused (a .degree) (a .rank) (omega arith)) (λ z. omega arith)
+
+count-requires : tie.Need-count-requires
+count-requires c κs = search needs
+
+returns-2 : tie.Need-returns-2
+unfolding shapeAt
+returns-2 c =
+    let a = c .before .before .before .args in
+    word-refused (rows (a .degree) (a .rank)) _ 11 (rank-refused (a .degree) (a .rank) (omega arith) (omega (arith, c .before .count .ensures))) (λ z. omega arith)
+
+words-requires : tie.Need-words-requires
+words-requires c κs = search needs
+
+start-requires : tie.Need-start-requires
+start-requires c κs = search needs
+
+known : (c : tie.After-start) → let a = c .before .before .before .before .before .args in
+    Listed (a .degree) (a .rank)
+known c = record { small = omega arith; within = omega (arith, c .before .before .before .count .ensures) }
+
+inside : (c : tie.After-start) → c .start .result + c .before .before .before .before .before .args .rank < 915
+inside c =
+    let a = c .before .before .before .before .before .args in
+    omega (arith, index-below (a .degree) (a .rank) (known c .small) (known c .within), c .start .ensures)
+
+add-i : tie.Need-add-i
+add-i c = omega (arith, inside c)
+
+cast-i : tie.Need-cast-i
+cast-i c = search needs
+
+mul-t9 : tie.Need-mul-t9
+mul-t9 c = search needs
+
+array-read-t6 : tie.Need-array-read-t6
+array-read-t6 c = inside c
+
+returns-3 : tie.Need-returns-3
+unfolding shapeAt
+returns-3 c =
+    let a = c .before .before .before .before .before .args in
+    let k = known c in
+    let read =
+    ap₂ (λ (l : List ℕ) (i : ℕ). getD l (i + a .rank) 0) (c .before .words .ensures) (c .start .ensures)
+    ∙ word-at (suc degreeLimit) (a .degree) (a .rank) (omega (arith, k .small)) (k .within) in
+    word-given (rows (a .degree) (a .rank)) _ _ (none-refused (a .degree) (a .rank) (k .small) (k .within)) read
+
+pub shape-at-spec : {M : Type 1} → statement M
+shape-at-spec =
+    tie.close
+    (tie.spec
+    returns
+    count-requires
+    returns-2
+    words-requires
+    start-requires
+    add-i
+    cast-i
+    mul-t9
+    array-read-t6
+    returns-3)

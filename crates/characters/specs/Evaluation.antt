@@ -1,0 +1,15 @@
+-- What the private functions of evaluation are asked.
+--   Fit shape cycles   a good shape word, and the cycles of a class of the same degree within the limit
+use mathlib.Core.Path.{_≡_}
+use Prim.Native.Nat.{_≤_, _<_}
+use Rattle.theory.specs.Basics.{ℕ, _^_}
+use Rattle.theory.specs.Partition.{Parts, degree}
+use Rattle.theory.specs.Partition.Laws.{NoZero}
+use Rattle.theory.specs.ShapeWord.{shapeOf}
+use Rattle.theory.specs.Refusals.{degreeLimit}
+
+pub record Fit (shape : ℕ) (cycles : Parts) : Type 0 where
+  pub good : shape < 2 ^ 30
+  pub no-zero : NoZero cycles
+  pub degrees : degree (shapeOf shape) ≡ degree cycles
+  pub small : degree cycles ≤ degreeLimit

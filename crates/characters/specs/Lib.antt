@@ -1,0 +1,14 @@
+-- What the calculator's calls promise: each file says which paragraph of document 01 it states; Judgement, Evaluation,
+-- Places and Tables are what its private parts are asked.
+pub mod Calls
+pub mod Judgement
+pub mod Evaluation
+pub mod Places
+pub mod Tables
+pub mod Line
+pub mod Sound
+pub mod Opening
+pub mod Step
+pub mod Watch
+pub mod Run
+pub mod Examples

@@ -1,0 +1,129 @@
+// The calculator: characters of the symmetric group, the listing of partitions, columns of the character table, and
+// sessions that are opened, stepped and watched. Every call takes every input; a refused word or number is 0, a refused
+// call writes nothing.
+ghost use mathlib.Core.Path.{_≡_};
+ghost use Prim.Native.Nat.{_≤_};
+ghost use Rattle.theory.specs.Basics.{replicate};
+ghost use Rattle.theory.specs.ClassWord.{classWord};
+ghost use Rattle.theory.specs.Refusals.{degreeLimit};
+ghost use Rattle.characters.specs.Judgement.{judgedPair};
+ghost use Rattle.characters.specs.Calls.{characterOf, shapeCharacterDegree};
+use words::NumberAnswer;
+
+mod evaluation;
+mod hooks;
+pub mod listing;
+mod lookup;
+mod tables;
+
+// A session's slip: the shape and the class asked for, the settled sum, the number of lines that wait, the steps.
+pub struct Slip {
+    pub shape: u32,
+    pub class: u32,
+    pub settled: i64,
+    pub lines: usize,
+    pub steps: i64,
+}
+
+// A slip with the refusal number beside it.
+pub struct Handed {
+    pub refused: u8,
+    pub slip: Slip,
+}
+
+// What a watch answers.
+pub enum Watched {
+    Whole(i64),
+    Ratio(f64),
+    Refused(u8),
+}
+
+// What the judge of a pair of words finds: why it is refused, or the degree of both.
+struct Judged {
+    refused: u8,
+    degree: u32,
+}
+
+// The judge of a shape word and a class word, in the order 1, 3, 2, 4, 5.
+fn judge(shape: u32, class: u32) -> Judged
+    ensures { λ r. ⌜ r ≡ judgedPair degreeLimit shape class ⌝ }
+{
+    let of_shape = words::shapes::degree(shape);
+    let of_class = words::classes::degree(class);
+    if of_shape.refused == 1 {
+        return Judged {
+            refused: 1,
+            degree: 0,
+        };
+    }
+    if of_class.refused == 3 {
+        return Judged {
+            refused: 3,
+            degree: 0,
+        };
+    }
+    if of_shape.refused != 0 {
+        return Judged {
+            refused: 2,
+            degree: 0,
+        };
+    }
+    if of_class.refused != 0 {
+        return Judged {
+            refused: 4,
+            degree: 0,
+        };
+    }
+    if of_shape.number != of_class.number {
+        return Judged {
+            refused: 5,
+            degree: 0,
+        };
+    }
+    Judged {
+        refused: 0,
+        degree: of_shape.number as u32,
+    }
+}
+
+// The character of a shape word on a class word. Refuses 1, 3, 2, 4, 5.
+pub fn character(shape: u32, class: u32) -> NumberAnswer
+    ensures { λ r. ⌜ r ≡ characterOf degreeLimit shape class ⌝ }
+{
+    let judged = judge(shape, class);
+    if judged.refused != 0 {
+        return NumberAnswer {
+            refused: judged.refused,
+            number: 0,
+        };
+    }
+    NumberAnswer {
+        refused: 0,
+        number: evaluation::value(shape, class),
+    }
+}
+
+// The class word of (1^n).
+fn ones(n: u32) -> u32
+    requires { ⌜ n ≤ degreeLimit ⌝ }
+    ensures { λ r. ⌜ r ≡ classWord (replicate n 1) ⌝ }
+{
+    ((1u32 << n) - 1) << (31 - n)
+}
+
+// The character degree of a shape word: its character on (1^n). Refuses 1, then 2.
+pub fn character_degree(shape: u32) -> NumberAnswer
+    ensures { λ r. ⌜ r ≡ shapeCharacterDegree degreeLimit shape ⌝ }
+{
+    let degree = words::shapes::degree(shape);
+    if degree.refused != 0 {
+        return NumberAnswer {
+            refused: degree.refused,
+            number: 0,
+        };
+    }
+    NumberAnswer {
+        refused: 0,
+        number: evaluation::value(shape, ones(degree.number as u32)),
+    }
+}

@@ -1,0 +1,77 @@
+-- What holds of each element, what is kept, and totals: of parts of a list, and of the elements that pass a test.
+use mathlib.Core.Path.{_≡_, refl, sym, ap, _∙_}
+use mathlib.Core.Bool.{false≢true}
+use native.Mathlib.Omega.{arith}
+use lib.IntN.{+ℤ-assoc}
+use Rattle.theory.specs.Basics.{Bool, true, false, not, cond, List, [], _∷_, _++_, map, ℕ, _+_}
+use Rattle.theory.specs.Basics.{ℤ, _+ℤ_, keep, every, total, sum}
+use Rattle.theory.specs.Basics.Laws.{both, Each}
+use Rattle.theory.specs.Character.Integers.{swap-front}
+
+-- two tests are the same if each passes where the other does
+pub same-test : (a b : Bool) → (a ≡ true → b ≡ true) → (b ≡ true → a ≡ true) → a ≡ b
+same-test true true f g = refl
+same-test true false f g = absurd (false≢true (f refl))
+same-test false true f g = absurd (false≢true (g refl))
+same-test false false f g = refl
+
+module _ {A : Type 0} where
+  -- ---- each element
+  pub each-parts : (P : A → Type 0) (xs ys : List A) → Each P (xs ++ ys) → Each P xs × Each P ys
+  each-parts P [] ys e = (tt, e)
+  each-parts P (x ∷ xs) ys e =
+      let r = each-parts P xs ys (e .1) in
+      ((e .0, r .0), r .1)
+
+  pub each-both : (P Q : A → Type 0) (xs : List A) → Each P xs → Each Q xs → Each (λ x. P x × Q x) xs
+  each-both P Q [] e f = tt
+  each-both P Q (x ∷ xs) e f = ((e .0, f .0), each-both P Q xs (e .1) (f .1))
+
+  module _ (test : A → Bool) where
+    pub every-each : (xs : List A) → every test xs ≡ true → Each (λ x. test x ≡ true) xs
+    every-each [] e = tt
+    every-each (x ∷ xs) e =
+        let b = both (test x) (every test xs) e in
+        (b .0, every-each xs (b .1))
+
+    pub each-every : (xs : List A) → Each (λ x. test x ≡ true) xs → every test xs ≡ true
+    each-every [] e = refl
+    each-every (x ∷ xs) e = rw (e .0) (each-every xs (e .1))
+
+    -- ---- what is kept
+    pub each-keep : (P : A → Type 0) (xs : List A) → Each P xs → Each (λ x. P x × (test x ≡ true)) (keep test xs)
+    each-keep P [] e = tt
+    each-keep P (x ∷ xs) e = go (test x) refl (each-keep P xs (e .1))
+      where
+        Kept : A → Type 0
+        Kept x = P x × (test x ≡ true)
+
+        go : (b : Bool) → test x ≡ b → Each Kept (keep test xs) → Each Kept (cond b (x ∷ keep test xs) (keep test xs))
+        go true t r = ((e .0, t), r)
+        go false t r = r
+
+    pub sum-keep : (f : A → ℤ) (xs : List A) → sum f xs ≡ sum f (keep test xs) +ℤ sum f (keep (λ x. not (test x)) xs)
+    sum-keep f [] = refl
+    sum-keep f (x ∷ xs) = ap (λ z. f x +ℤ z) (sum-keep f xs) ∙ go (test x) _ _
+      where
+        go : (b : Bool) (ys zs : List A)
+            → f x +ℤ (sum f ys +ℤ sum f zs) ≡ sum f (cond b (x ∷ ys) ys) +ℤ sum f (cond (not b) (x ∷ zs) zs)
+        go true ys zs = sym (+ℤ-assoc (f x) (sum f ys) (sum f zs))
+        go false ys zs = swap-front (f x) (sum f ys) (sum f zs)
+
+    pub total-keep : (f : A → ℕ) (xs : List A)
+        → total (map f xs) ≡ total (map f (keep test xs)) + total (map f (keep (λ x. not (test x)) xs))
+    total-keep f [] = refl
+    total-keep f (x ∷ xs) = ap (λ (n : ℕ). f x + n) (total-keep f xs) ∙ go (test x) _ _
+      where
+        go : (b : Bool) (ys zs : List A)
+            → f x + (total (map f ys) + total (map f zs))
+            ≡ total (map f (cond b (x ∷ ys) ys)) + total (map f (cond (not b) (x ∷ zs) zs))
+        go true ys zs = omega arith
+        go false ys zs = omega arith
+
+  -- ---- totals
+  module _ (f : A → ℕ) where
+    pub total-append : (xs ys : List A) → total (map f (xs ++ ys)) ≡ total (map f xs) + total (map f ys)
+    total-append [] ys = omega arith
+    total-append (x ∷ xs) ys = omega (arith, total-append xs ys)

@@ -1,0 +1,95 @@
+-- Shape words along the listing, and the words of all shapes of small degrees in one list.
+--   Ranked n i w   w is a good shape word, of degree n, and the rank of its shape is i
+--   wordsBelow m   the words of the shapes of the degrees below m, degree by degree, each degree in listing order
+--   start n        where degree n starts there, for any m above n
+--   index w        where w stands there, if it is good and the degree of its shape is below m
+use mathlib.Core.Path.{_≡_, sym, _∙_, ap}
+use Prim.Native.Nat.{_≤_, _<_}
+use native.Mathlib.Nat.{le-refl}
+use native.Mathlib.Decide.{ℕ-discrete}
+use native.Mathlib.Omega.{arith}
+use lib.ListN.{length-append, length-map, List·getD-append}
+use lib.Seq.{getD-append-add}
+use Rattle.theory.specs.Basics.{true, List, [], _∷_, _++_, map, ℕ, zero, suc, _+_, length, getD}
+use Rattle.theory.specs.Basics.Places.{map-at}
+use Rattle.theory.specs.Partition.{degree}
+use Rattle.theory.specs.Digits.{width}
+use Rattle.theory.specs.ShapeWord.{shapeWord, shapeOf, goodShape}
+use Rattle.theory.specs.ShapeWord.Words.{TheWord, the-word, the-shape, small-fits}
+use Rattle.theory.specs.Listing.{listing, rank}
+use Rattle.theory.specs.Listing.Ranks.{at-rank, listed}
+
+-- ---- one degree
+pub record Ranked (n i w : ℕ) : Type 0 where
+  pub good : goodShape w ≡ true
+  pub of-degree : degree (shapeOf w) ≡ n
+  pub ranked : rank (shapeOf w) ≡ i
+
+pub word-ranked : (n i : ℕ) → n < width → i < length (listing n) → Ranked n i (shapeWord (getD (listing n) i []))
+word-ranked n i h l =
+    let ps = getD (listing n) i [] in
+    let r = at-rank n i l in
+    let w = the-word ps (small-fits ps (r .partition) (omega (arith, r .of-degree))) in
+    record {
+      good = w .good;
+      of-degree = ap degree (w .its-shape) ∙ r .of-degree;
+      ranked = ap rank (w .its-shape) ∙ r .ranked;
+    }
+
+-- ---- all degrees
+unfoldable pub wordsBelow : ℕ → List ℕ
+wordsBelow zero = []
+wordsBelow (suc n) = wordsBelow n ++ map shapeWord (listing n)
+
+abbrev pub start : ℕ → ℕ
+start n = length (wordsBelow n)
+
+pub start-next : (n : ℕ) → start (suc n) ≡ start n + length (listing n)
+unfolding wordsBelow
+start-next n = simp (length-append, length-map)
+
+pub start-rises : (n m : ℕ) → n ≤ m → start n ≤ start m
+start-rises n zero h =
+    let e : n ≡ 0 = omega arith in
+    rw e (le-refl (start 0))
+start-rises n (suc m) h = elim (ℕ-discrete n (suc m)) [
+  | yes e ↦ rw e (le-refl (start (suc m)))
+  | no f ↦ omega (arith, start-next m, start-rises n m (omega arith))
+]
+
+pub start-within : (m n i : ℕ) → n < m → i < length (listing n) → start n + i < start m
+start-within m n i h l = omega (arith, start-next n, start-rises (suc n) m h)
+
+pub word-at : (m n i : ℕ) → n < m → i < length (listing n)
+    → getD (wordsBelow m) (start n + i) 0 ≡ shapeWord (getD (listing n) i [])
+unfolding wordsBelow
+word-at zero n i h l = absurd (omega arith)
+word-at (suc m) n i h l = elim (ℕ-discrete n m) [
+  | yes e ↦
+      rw e
+      (getD-append-add (wordsBelow m) (map shapeWord (listing m)) i 0
+      ∙ map-at shapeWord (listing m) [] 0 i (rw e at l))
+  | no f ↦
+      List·getD-append (wordsBelow m) (map shapeWord (listing m)) 0 (start n + i)
+      (start-within m n i (omega arith) l)
+      ∙ word-at m n i (omega arith) l
+]
+
+abbrev pub index : ℕ → ℕ
+index w = start (degree (shapeOf w)) + rank (shapeOf w)
+
+pub record Indexed (m w : ℕ) : Type 0 where
+  pub in-degree : index w < start (suc (degree (shapeOf w)))
+  pub within : index w < start m
+  pub at : getD (wordsBelow m) (index w) 0 ≡ w
+
+pub indexed : (m w : ℕ) → goodShape w ≡ true → degree (shapeOf w) < m → Indexed m w
+indexed m w g h =
+    let ps = shapeOf w in
+    let t = the-shape w g in
+    let s = listed ps (t .fits .partition) in
+    record {
+      in-degree = omega (arith, start-next (degree ps), s .within);
+      within = start-within m (degree ps) (rank ps) h (s .within);
+      at = word-at m (degree ps) (rank ps) h (s .within) ∙ ap shapeWord (s .at) ∙ t .its-word;
+    }

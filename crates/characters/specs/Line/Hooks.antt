@@ -25,8 +25,7 @@ use Rattle.theory.specs.Hooks.Words.{Left, hooks-leave, hooks-few, hook-rule-wo
 use Rattle.theory.specs.Hooks.Signed.{signed-sum}
 use Rattle.theory.specs.Bounds.Steps.{hooks-total}
 use Rattle.characters.specs.Line as Line
-use Rattle.characters.specs.Line.{line, lineMinus, lineShape, lineClass, lineDegree}
-use Rattle.characters.specs.Line.{signedCharacter, hookLines}
+use Rattle.characters.specs.Line.{line, lineMinus, lineShape, lineClass, lineDegree, signedCharacter, hookLines}
 use Rattle.characters.specs.Line.Laws.{ReadBack, read-back, good-class, over}
 
 abbrev pub Has : ℕ → ℕ → Type 0
@@ -127,8 +126,10 @@ module _ (cycle x : ℕ) (good : goodClass (lineClass x) ≡ true) (has : Has cy
       let c : Parts = classOf (lineClass x) in
       let hooks : List (Hook ℕ) = hookWords cycle (lineShape x) in
       signed-character x
-      ∙ ap (signed (lineMinus x)) (hook-rule-words cycle c (parts-no-zero 0 (digits width (lineClass x))) has (lineShape x))
+      ∙ ap (signed (lineMinus x))
+      (hook-rule-words cycle c (parts-no-zero 0 (digits width (lineClass x))) has (lineShape x))
       ∙ signed-sum (lineMinus x) _ hooks
       ∙ sum-same (Left cycle (lineShape x)) _ (λ hook. signedCharacter (made cycle x hook)) hooks
-      (λ hook l. signed-times (lineMinus x) (hook .minus) _ ∙ sym (made-character hook l)) (hooks-leave cycle (lineShape x))
+      (λ hook l. signed-times (lineMinus x) (hook .minus) _ ∙ sym (made-character hook l))
+      (hooks-leave cycle (lineShape x))
       ∙ sym (sum-map signedCharacter (made cycle x) hooks)

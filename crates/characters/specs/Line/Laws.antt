@@ -1,5 +1,5 @@
--- A line is read back from its word (document 01, "A waiting line is (signed shape word) times 2^32 plus (class word)"),
--- and sums over lines that go by their degrees.
+-- A line is read back from its word (document 01, "(signed shape word) times 2^32 plus (class word)"), and sums over
+-- lines that go by their degrees.
 --   over f xs                      the sum of f(d) over the lines xs, d being the degree of each
 --   ReadBack minus shape class x   the word x of 64 bits is a line of this sign, shape word and class word
 use mathlib.Core.Path.{_≡_}

@@ -34,12 +34,13 @@ module _ (lines page : List ℕ) (room : length lines ≤ length page) where
         → natAbs steps + over S lines ≤ S (degree (shapeOf shape))
         → Sound limit (slipOf shape class settled (length lines) steps) (padded lines page)
     sound-padded words each value forward span =
-        let w = take-append-seam lines (replicate (length page - length lines) 0) in
+        let n : ℕ = length page - length lines in
+        let w = take-append-seam lines (replicate n 0) in
         record {
           words = words;
           fit = rw length-padded room;
           lines = rw w each;
-          zeros = rw (drop-append-seam lines (replicate (length page - length lines) 0)) (each-zero (length page - length lines));
+          zeros = rw (drop-append-seam lines (replicate n 0)) (each-zero n);
           value = rw w value;
           forward = forward;
           span = rw w span;

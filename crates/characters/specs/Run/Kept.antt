@@ -3,14 +3,13 @@
 use mathlib.Core.Path.{_≡_, refl, sym, _∙_, ap}
 use lib.Dec.{eqb·suc-zero}
 use lib.IntN.{+ℤ-assoc, +ℤ-idr}
-use Rattle.theory.specs.Basics.{cond, List, [], _∷_, _++_, length, ℕ, zero, suc, _+_, pos, _+ℤ_, _=?_}
-use Rattle.theory.specs.Refusals.{firstOf, judged, pairRows, no-6, no-10}
-use Rattle.theory.specs.Refusals.Laws.{judged-refused}
+use Rattle.theory.specs.Basics.{cond, List, [], _∷_, length, ℕ, zero, suc, _+_, pos, _+ℤ_, _=?_}
+use Rattle.theory.specs.Refusals.{firstOf, judged}
 use Rattle.characters.specs.declared.Slip.{Slip}
 use Rattle.characters.specs.declared.Handed.{Handed}
 use Rattle.characters.specs.Sound.Laws.{Sound}
-use Rattle.characters.specs.Opening.{handed, blank, padded, firstLines, opening}
-use Rattle.characters.specs.Opening.Laws.{judged-number}
+use Rattle.characters.specs.Opening.{handed, padded}
+use Rattle.characters.specs.Opening.Laws.{refused-opening}
 use Rattle.characters.specs.Opening.Padded.{length-padded}
 use Rattle.characters.specs.Step.{nextLines, nextSlip, stepRows, step}
 use Rattle.characters.specs.Step.Laws.{accepted, next-sound, next-worth}
@@ -76,15 +75,6 @@ module _ (limit : ℕ) where
           }
       go (suc k) e = rw (eqb·suc-zero k) (stays f)
 
-  -- a refused opening leaves the page
-  refused-opening : (shape class : ℕ) (p : List ℕ) → (opening limit shape class p .0 .refused ≡ 0 → ⊥)
-      → opening limit shape class p .1 ≡ p
-  unfolding opening
-  refused-opening shape class p refused =
-      let k : ℕ = firstOf (pairRows limit shape class ++ no-6 p ∷ no-10 (firstLines shape class) p ∷ []) in
-      ap (λ (o : Handed × List ℕ). o .1)
-      (judged-refused (λ j. (handed j blank, p)) _ k (λ e. refused (judged-number k _ _ p _ ∙ e)))
-
 -- ---- a run
 module _ (limit : ℕ) (t : Slip) (q : List ℕ) where
   pub run-leads : (s : Slip) (p : List ℕ) (calls : List Call) → Sound limit s p → Run limit s p calls t q
@@ -92,8 +82,8 @@ module _ (limit : ℕ) (t : Slip) (q : List ℕ) where
   unfolding Run acceptedSteps
   run-leads s p [] f r = rw (r .0, r .1) (stays f)
   run-leads s p (opened shape class a p′ ∷ calls) f r =
-      let refused : opening limit shape class p .0 .refused ≡ 0 → ⊥ = λ z. r .1 (ap (λ (h : Handed). h .refused) (r .0 .answers) ∙ z) in
-      let e : p′ ≡ p = r .0 .leaves ∙ refused-opening limit shape class p refused in
+      let number = ap (λ (h : Handed). h .refused) (r .0 .answers) in
+      let e : p′ ≡ p = r .0 .leaves ∙ refused-opening limit shape class p (λ z. r .1 (number ∙ z)) in
       run-leads s p calls f (rw e at (r .2))
   run-leads s p (stepped line cycle a p′ ∷ calls) f r =
       let l : Leads limit s p (one-if-accepted a) (a .slip) p′ =

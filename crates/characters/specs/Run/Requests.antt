@@ -1,6 +1,6 @@
 -- A run's answers are determined by its requests (document 01, "no second outcome"): so to strike the watches alters no
 -- other answer, whichever way one looks at it.
---   Request              a call without its answer; request call, what a call asked; requests calls, what the calls asked
+--   Request              a call without its answer; request call, what a call asked; requests calls, what all asked
 --   said w               the answer that reads w
 --   answered s p r       the call that asks r of slip s and page p, with the answer that is promised
 --   slipAfter, pageAfter what it hands on
@@ -92,8 +92,8 @@ module _ (limit : ℕ) (t : Slip) (q : List ℕ) where
       led limit (opened shape class a p′) (rw (r .0 .answers, r .0 .leaves)) refl (r .0 .leaves)
       (run-determined s p′ calls (r .2))
   run-determined s p (stepped line cycle a p′ ∷ calls) r =
-      led limit (stepped line cycle a p′) (rw (r .0 .answers, r .0 .leaves)) (ap (λ (h : Handed). h .slip) (r .0 .answers))
-      (r .0 .leaves) (run-determined (a .slip) p′ calls (r .1))
+      led limit (stepped line cycle a p′) (rw (r .0 .answers, r .0 .leaves))
+      (ap (λ (h : Handed). h .slip) (r .0 .answers)) (r .0 .leaves) (run-determined (a .slip) p′ calls (r .1))
   run-determined s p (watched kind line a ∷ calls) r =
       led limit (watched kind line a) (ap (watched kind line) (sym (said-reads a) ∙ ap said (r .0))) refl refl
       (run-determined s p calls (r .1))

@@ -1,7 +1,7 @@
 -- A step that names a line of a sound page and a cycle of its class, room or no room for what comes of it.
---   chosen page line   the line that a step names
---   before .., behind ..   the lines that stand before it and behind it
---   Named ..           what it says that no row before 10 refuses a step
+--   chosen page line       the line that a step names
+--   before .., behind ..   the lines that wait before it and behind it
+--   Named ..               what it says that no row from 7 to 9 refuses a step
 use mathlib.Core.Path.{_≡_, _∙_, ap}
 use Prim.Native.Nat.{_≤_, _<_}
 use native.Mathlib.Nat.{le-refl}

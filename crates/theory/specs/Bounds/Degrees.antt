@@ -1,5 +1,5 @@
--- A character degree is at least 1 and at most n! (document 01, "Character degree of a shape"): each hook of length 1 has
--- a plus, and a shape that has a row has such a hook.
+-- A character degree is at least 1 and at most n! (document 01, "Character degree of a shape"): each hook of length 1
+-- has a plus, and a shape that has a row has such a hook.
 --   Positive z   z is 1 or more
 use mathlib.Core.Path.{_≡_, refl, sym, ap}
 use Prim.Native.Nat.{_<_, _≤_}

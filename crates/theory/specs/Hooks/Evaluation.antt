@@ -5,10 +5,10 @@ use mathlib.Core.Path.{_≡_, refl, sym, _∙_, ap}
 use mathlib.Core.List.{List·Memᴰ}
 use native.Mathlib.Omega.{arith}
 use borrow.Author.Tests.{eq-eqb}
-use Rattle.theory.specs.Basics.{[], _∷_, length, ℕ, suc, ℤ, pos, sum}
+use Rattle.theory.specs.Basics.{[], _∷_, ℕ, suc, ℤ, pos, sum}
 use Rattle.theory.specs.Basics.Laws.{each-member, each-of, sum-same}
 use Rattle.theory.specs.Partition.{Parts, degree, times, without}
-use Rattle.theory.specs.Partition.Laws.{NoZero, none, some, no-zero-without, times-own, length-degree}
+use Rattle.theory.specs.Partition.Laws.{NoZero, none, some, no-zero-without, times-own, no-degree}
 use Rattle.theory.specs.Digits.{Digits}
 use Rattle.theory.specs.ShapeWord.{rows}
 use Rattle.theory.specs.ShapeWord.Laws.{rows-partition}
@@ -40,14 +40,10 @@ evaluated (strike h c ds f occurs evaluations) k =
     ∙ sym (hook-rule h c k occurs ds)
 
 -- and there is one, wherever the degrees agree
-no-rows : (rs : Parts) → length rs ≡ 0 → rs ≡ []
-no-rows [] e = refl
-no-rows (r ∷ rs) e = absurd (omega arith)
-
 pub evaluates : {c : Parts} → NoZero c → (ds : Digits) → degree (rows ds) ≡ degree c → Evaluation c ds (rows ds on c)
 unfolding character
 evaluates none ds e =
-    let empty = no-rows (rows ds) (omega (arith, length-degree (rows ds) (rows-partition ds))) in
+    let empty = no-degree (rows ds) (rows-partition ds) e in
     rw empty (done ds empty)
 evaluates (some {p = p} {ps = ps} k) ds e =
     let h : ℕ = suc p in

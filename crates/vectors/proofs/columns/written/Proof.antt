@@ -1,0 +1,55 @@
+-- `vectors::columns::written` is safe and ends. The room is within the seventeen entries.
+use native.Mathlib.Omega.{arith}
+use borrow.Author.Needs.{needs}
+use Rattle.io.proofs.Counting.{front}
+use Rattle.vectors.proofs.columns.written.Statement.{statement}
+use Rattle.vectors.proofs.columns.written.Tie as tie
+
+returns : tie.Need-returns
+returns c = search needs
+
+array-borrow-prefix-all : tie.Need-array-borrow-prefix-all
+array-borrow-prefix-all c = search needs
+
+slice-aggregate-column : tie.Need-slice-aggregate-column
+slice-aggregate-column c = front _ _ (omega arith)
+
+parts-of-requires : tie.Need-parts-of-requires
+parts-of-requires c κs = search needs
+
+slice-aggregate-holds : tie.Need-slice-aggregate-holds
+slice-aggregate-holds c = search needs
+
+holds-requires : tie.Need-holds-requires
+holds-requires c κs = search needs
+
+returns-2 : tie.Need-returns-2
+returns-2 c = search needs
+
+returns-3 : tie.Need-returns-3
+returns-3 c = search needs
+
+holds-requires-2 : tie.Need-holds-requires-2
+holds-requires-2 c κs = search needs
+
+returns-4 : tie.Need-returns-4
+returns-4 c = search needs
+
+returns-5 : tie.Need-returns-5
+returns-5 c = search needs
+
+pub written-spec : {M : Type 1} → statement M
+written-spec =
+    tie.close
+    (tie.spec
+    returns
+    array-borrow-prefix-all
+    slice-aggregate-column
+    parts-of-requires
+    slice-aggregate-holds
+    holds-requires
+    returns-2
+    returns-3
+    holds-requires-2
+    returns-4
+    returns-5)

@@ -1,0 +1,59 @@
+-- `vectors::conjugates::agrees` is safe and ends. The longest part is within the seventeen rows.
+use native.Mathlib.Omega.{arith}
+use borrow.Author.Needs.{needs}
+use Rattle.io.proofs.Counting.{front}
+use Rattle.vectors.proofs.conjugates.agrees.Statement.{statement}
+use Rattle.vectors.proofs.conjugates.agrees.Tie as tie
+
+conjugate-requires : tie.Need-conjugate-requires
+conjugate-requires c κs = search needs
+
+conjugate-requires-2 : tie.Need-conjugate-requires-2
+conjugate-requires-2 c κs = search needs
+
+slice-aggregate-transpose : tie.Need-slice-aggregate-transpose
+slice-aggregate-transpose c = search needs
+
+transpose-requires : tie.Need-transpose-requires
+transpose-requires c κs = search needs
+
+shared-slice-read-wide : tie.Need-shared-slice-read-wide
+shared-slice-read-wide c = search needs
+
+wide-requires : tie.Need-wide-requires
+wide-requires c κs = search needs
+
+returns : tie.Need-returns
+returns c = search needs
+
+array-share-prefix-rows : tie.Need-array-share-prefix-rows
+array-share-prefix-rows c = search needs
+
+slice-aggregate-written : tie.Need-slice-aggregate-written
+slice-aggregate-written c = front _ _ (omega arith)
+
+written-requires : tie.Need-written-requires
+written-requires c κs = search needs
+
+returns-2 : tie.Need-returns-2
+returns-2 c = search needs
+
+returns-3 : tie.Need-returns-3
+returns-3 c = search needs
+
+pub agrees-spec : {M : Type 1} → statement M
+agrees-spec =
+    tie.close
+    (tie.spec
+    conjugate-requires
+    conjugate-requires-2
+    slice-aggregate-transpose
+    transpose-requires
+    shared-slice-read-wide
+    wide-requires
+    returns
+    array-share-prefix-rows
+    slice-aggregate-written
+    written-requires
+    returns-2
+    returns-3)

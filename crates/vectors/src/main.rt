@@ -1,0 +1,25 @@
+// Runs the calls of `words` on all 915 partitions of degree 0 to 16 and at every border, and compares what they answer
+// with what is counted here from the parts, without digits. A line to a check; none may be wrong.
+mod borders;
+mod class_data;
+mod columns;
+mod conjugates;
+mod partitions;
+mod tally;
+mod walk;
+
+use tally::print;
+
+fn main() {
+    let found = walk::all();
+    print(b"shape word there and back", found.shapes);
+    print(b"class word there and back", found.classes);
+    print(b"class words rise", found.rises);
+    print(b"columns too short and longer", found.columns);
+    print(b"conjugate", found.conjugates);
+    print(b"sign", found.signs);
+    print(b"period", found.periods);
+    print(b"class sizes sum to n!", found.sizes);
+    print(b"words at a border, E4, E6", borders::words());
+    print(b"lists at a border, E1, E2, E3, E5", borders::lists());
+}

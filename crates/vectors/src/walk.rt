@@ -1,0 +1,95 @@
+// A walk over all partitions of degree 0 to 16, with every check on each.
+use super::class_data;
+use super::class_data::period_agrees;
+use super::class_data::sign_agrees;
+use super::columns::Kind;
+use super::columns::fit;
+use super::columns::there_and_back;
+use super::conjugates;
+use super::partitions;
+use super::tally::Tally;
+
+// What each check found, and of the degree that is being walked the number of partitions met, the class word of the last
+// one and the sum of the sizes of the classes.
+pub struct Found {
+    pub shapes: Tally,
+    pub classes: Tally,
+    pub rises: Tally,
+    pub columns: Tally,
+    pub conjugates: Tally,
+    pub signs: Tally,
+    pub periods: Tally,
+    pub sizes: Tally,
+    number: u64,
+    last: u32,
+    sum: u64,
+}
+
+// The checks on a partition of n.
+fn meet(found: Found, parts: &[u8], n: u8) -> Found {
+    let shape = words::shapes::word(parts);
+    let class = words::classes::word(parts);
+    let counted = class_data::count(parts);
+    let columns = fit(Kind::Shape, shape.word, parts) && fit(Kind::Class, class.word, parts);
+    let mut f = found;
+    f.shapes = f.shapes.add(there_and_back(Kind::Shape, shape, parts, n));
+    f.classes = f.classes.add(there_and_back(Kind::Class, class, parts, n));
+    f.rises = f.rises.add(f.number == 0 || f.last < class.word);
+    f.columns = f.columns.add(columns);
+    f.conjugates = f.conjugates.add(conjugates::agrees(shape.word, parts));
+    f.signs = f.signs.add(sign_agrees(class.word, counted));
+    f.periods = f.periods.add(period_agrees(class.word, counted));
+    f.number = std::num::wrapping_add_u64(f.number, 1);
+    f.last = class.word;
+    f.sum = std::num::wrapping_add_u64(f.sum, class_data::size(class.word));
+    f
+}
+
+// All partitions of n, and their number on standard output. A walk that did not end would stop after 300.
+fn of_degree(found: Found, n: u8, factorial: u64) -> Found {
+    let mut f = found;
+    f.number = 0;
+    f.sum = 0;
+    let mut parts = [0u8; 16];
+    let mut count = partitions::fill(&mut parts, 0, n, n);
+    let mut left = 300u32;
+    while 0 < left {
+        f = meet(f, &parts[..count], n);
+        count = partitions::next(&mut parts, count);
+        if count == 0 {
+            break;
+        }
+        left -= 1;
+    }
+    io::write_all(1, b" ");
+    io::print_decimal(1, f.number);
+    f.sizes = f.sizes.add(f.sum == factorial);
+    f
+}
+
+pub fn all() -> Found {
+    io::write_all(1, b"partitions of degree 0 to 16:");
+    let none = Tally::new();
+    let mut found = Found {
+        shapes: none,
+        classes: none,
+        rises: none,
+        columns: none,
+        conjugates: none,
+        signs: none,
+        periods: none,
+        sizes: none,
+        number: 0,
+        last: 0,
+        sum: 0,
+    };
+    let mut n = 0u8;
+    let mut factorial = 1u64;
+    while n <= 16 {
+        found = of_degree(found, n, factorial);
+        n += 1;
+        factorial = class_data::times(factorial, n);
+    }
+    io::write_all(1, b"\n");
+    found
+}

@@ -1,6 +1,6 @@
 #!/usr/bin/env python3
 """tables.py: writes the tables of the listing, crates/characters/src/tables.rt and specs/Places.antt. Run it in the
-repository, then `rt fmt`. What it writes is not believed: each table is proved to have its rule (proofs/tables)."""
+repository, then `rt fmt`. What it writes is not believed: lookup.rt says the rule of each table, and is proved."""
 
 LIMIT = 16
 
@@ -21,8 +21,8 @@ def shape_word(rows):
 
 
 def displacements(words):
-    """For the eight high digits of a word (its bits 29 to 22) a number such that this number plus the eight low ones (its
-    bits 21 to 14) is a place that no other word has: the largest group of words goes first to the lowest place it fits."""
+    """For the eight high digits of a word (bits 29 to 22) a number such that it and the eight low ones (bits 21 to 14)
+    add up to a place that no other word has. The largest group of words goes first, to the lowest places it fits."""
     groups = {}
     for word in words:
         groups.setdefault(word >> 22, []).append((word >> 14) % 256)
@@ -39,9 +39,6 @@ counts = [len(shapes) for shapes in listing]
 words = [shape_word(rows) for shapes in listing for rows in shapes]
 starts = [sum(counts[:n]) for n in range(LIMIT + 2)]
 places = displacements(words)
-indexes = [0] * (max(places) + 256)
-for i, word in enumerate(words):
-    indexes[places[word >> 22] + (word >> 14) % 256] = i
 
 
 def table(comment, name, kind, entries):
@@ -54,9 +51,8 @@ with open('crates/characters/src/tables.rt', 'w') as file:
     file.write(table('How many partitions each degree has.', 'COUNTS', 'u32', counts))
     file.write(table('Where each degree starts in WORDS, and where the last ends.', 'STARTS', 'u32', starts))
     file.write(table('The shape words, degree by degree, each degree in listing order.', 'WORDS', 'u32', words))
-    file.write(table('The place of a shape word t is PLACES[t >> 22] + (t >> 14) % 256: no two have one place.', 'PLACES',
+    file.write(table('A shape word t has the place PLACES[t >> 22] + (t >> 14) % 256: no two have one.', 'PLACES',
                      'u16', places))
-    file.write(table('At the place of each shape word, where it stands in WORDS.', 'INDEXES', 'u16', indexes))
 
 with open('crates/characters/specs/Places.antt', 'w') as file:
     rows = [' ∷ '.join(map(str, places[i:i + 16])) for i in range(0, 256, 16)]

@@ -1,6 +1,9 @@
 pub mod Judging
 pub mod Signed
+pub mod HookSums
 pub mod Walks
 pub mod Places
+pub mod KeptTables
+pub mod ColumnAnswers
 pub mod Ranks
 pub mod Unique

@@ -61,8 +61,8 @@ module _ (ps : Parts) (partition : isPartition ps ≡ true) (small : degree ps �
   unfolding shapeRank
   shape-rank-given = rw (shape-passes, shape-back)
 
-  shape-parts-given : (k : CountAnswer) (parts : List ℕ) → Outcome (shapePartsInto degreeLimit (shapeWord ps) blank) k parts
-      → FrontGiven ps k parts
+  shape-parts-given : (k : CountAnswer) (parts : List ℕ)
+      → Outcome (shapePartsInto degreeLimit (shapeWord ps) blank) k parts → FrontGiven ps k parts
   unfolding shapePartsInto
   shape-parts-given k parts o =
       let front = front-given (shapeRows degreeLimit (shapeWord ps)) (shapeOf (shapeWord ps)) blank refl
@@ -118,7 +118,8 @@ module _ (n r : ℕ) where
               → a ≡ classAt degreeLimit n r
           unfolding classAt
           class-given a f =
-              f ∙ ap (classWordFrom degreeLimit) (parts-of-rank .front) ∙ class-word-given (at n r) (known .partition) small
+              f ∙ ap (classWordFrom degreeLimit) (parts-of-rank .front)
+              ∙ class-word-given (at n r) (known .partition) small
               ∙ word-given rows (classWord (at n r)) (classWord (at n r)) (shape-given .0) refl
 
 -- ---- the rank of a shape word
@@ -154,13 +155,13 @@ module _ (w : ℕ) where
   class-room z = room (classOf w) (class-partition z) (within-class degreeLimit w z .small)
 
   module _ (k : CountAnswer) (parts : List ℕ) (o : Outcome (classPartsInto degreeLimit w blank) k parts) where
-    class-refusal : k .refused ≡ firstOf (classRows degreeLimit w)
+    pub class-refusal : k .refused ≡ firstOf (classRows degreeLimit w)
     unfolding classPartsInto
     class-refusal = column-refusal (classRows degreeLimit w) (classOf w) blank refl class-room k parts o
 
     pub class-rank-refused : (k .refused ≡ 0 → ⊥) → numberAnswer (k .refused) (pos 0) ≡ classRank degreeLimit w
     unfolding classRank
-    class-rank-refused n = number-refused (classRows degreeLimit w) (pos (rank (classOf w))) (k .refused) class-refusal n
+    class-rank-refused = number-refused (classRows degreeLimit w) (pos (rank (classOf w))) (k .refused) class-refusal
 
     module _ (z : k .refused ≡ 0) where
       none : firstOf (classRows degreeLimit w) ≡ 0

@@ -1,11 +1,13 @@
 -- What the private functions of evaluation are asked.
---   Fit shape cycles   a good shape word, and the cycles of a class of the same degree within the limit
+--   Fit shape cycles     a good shape word, and the cycles of a class of the same degree within the limit
+--   hookSum value h w    the signed sum, over the hooks of length h of the word w, of the values of the words that they leave
 use mathlib.Core.Path.{_≡_}
 use Prim.Native.Nat.{_≤_, _<_}
-use Rattle.theory.specs.Basics.{ℕ, _^_}
+use Rattle.theory.specs.Basics.{ℕ, _^_, ℤ, sum}
 use Rattle.theory.specs.Partition.{Parts, degree}
 use Rattle.theory.specs.Partition.Laws.{NoZero}
 use Rattle.theory.specs.ShapeWord.{shapeOf}
+use Rattle.theory.specs.Hooks.{hookWords, signed}
 use Rattle.theory.specs.Refusals.{degreeLimit}
 
 pub record Fit (shape : ℕ) (cycles : Parts) : Type 0 where
@@ -13,3 +15,6 @@ pub record Fit (shape : ℕ) (cycles : Parts) : Type 0 where
   pub no-zero : NoZero cycles
   pub degrees : degree (shapeOf shape) ≡ degree cycles
   pub small : degree cycles ≤ degreeLimit
+
+unfoldable pub hookSum : (ℕ → ℤ) → ℕ → ℕ → ℤ
+hookSum value h w = sum (λ hook. signed (hook .minus) (value (hook .leaves))) (hookWords h w)

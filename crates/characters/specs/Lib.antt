@@ -1,10 +1,11 @@
 -- What the calculator's calls promise: each file says which paragraph of document 01 it states; Judgement, Evaluation,
--- Places and Tables are what its private parts are asked.
+-- Places, Tables and Columns are what its private parts are asked.
 pub mod Calls
 pub mod Judgement
 pub mod Evaluation
 pub mod Places
 pub mod Tables
+pub mod Columns
 pub mod Line
 pub mod Sound
 pub mod Opening

@@ -12,7 +12,7 @@ ghost use Rattle.characters.specs.Evaluation.{Fit};
 use super::hooks;
 
 // A sum with one number more, its sign turned where `minus` says so.
-fn added(sum: i64, minus: bool, number: i64) -> i64
+pub fn added(sum: i64, minus: bool, number: i64) -> i64
     requires { ⌜ natAbs sum + natAbs number < 2 ^ 63 ⌝ }
     ensures { λ r. ⌜ r ≡ sum +ℤ signed minus number ⌝ }
 {

@@ -7,9 +7,12 @@ ghost use Rattle.theory.specs.Basics.{replicate};
 ghost use Rattle.theory.specs.ClassWord.{classWord};
 ghost use Rattle.theory.specs.Refusals.{degreeLimit};
 ghost use Rattle.characters.specs.Judgement.{judgedPair};
-ghost use Rattle.characters.specs.Calls.{characterOf, shapeCharacterDegree};
+ghost use Rattle.words.specs.Answers.{Outcome};
+ghost use Rattle.characters.specs.Calls.{characterOf, shapeCharacterDegree, columnInto};
+use words::CountAnswer;
 use words::NumberAnswer;
 
+mod columns;
 mod evaluation;
 mod hooks;
 pub mod listing;
@@ -126,4 +129,30 @@ pub fn character_degree(shape: u32) -> NumberAnswer
         refused: 0,
         number: evaluation::value(shape, ones(degree.number as u32)),
     }
+}
+
+// The characters of all shapes on a class word, in listing order, to the front of `values`; their count is the answer.
+// Refuses 3, 4, then 14.
+pub fn column(class: u32, values: &mut [i64]) -> CountAnswer
+    ensures { λ r. ⌜ Outcome (columnInto degreeLimit class (now (values .entry))) r (now (values .exit)) ⌝ }
+{
+    let of_class = words::classes::degree(class);
+    if of_class.refused != 0 {
+        return CountAnswer {
+            refused: of_class.refused,
+            count: 0,
+        };
+    }
+    let degree = of_class.number as u32;
+    let count = lookup::count(degree) as usize;
+    if values.len() < count {
+        return CountAnswer {
+            refused: 14,
+            count: 0,
+        };
+    }
+    let mut parts = [0u8; 16];
+    let cycles = words::classes::parts(class, &mut parts).count;
+    columns::write(&parts[..cycles], degree, values);
+    CountAnswer { refused: 0, count }
 }

@@ -50,9 +50,10 @@ pub fn shape_rank(word: u32) -> words::NumberAnswer
     if degree.refused != 0 {
         return degree;
     }
+    let rank = lookup::rank(&lookup::words(), word, degree.number as u32);
     words::NumberAnswer {
         refused: 0,
-        number: lookup::rank(word, degree.number as u32) as i64,
+        number: rank as i64,
     }
 }
 

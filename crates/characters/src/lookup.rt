@@ -10,9 +10,8 @@ ghost use Rattle.theory.specs.Listing.Words.{start};
 ghost use Rattle.theory.specs.Refusals.{degreeLimit};
 ghost use Rattle.theory.specs.Refusals.Laws.{Within};
 ghost use Rattle.characters.specs.Places.{places as placeTable};
-ghost use Rattle.characters.specs.Tables.{shapeWords, placeOf, placeCount, indexes as indexTable};
+ghost use Rattle.characters.specs.Tables.{shapeWords, placeOf, placeCount};
 use super::tables::COUNTS;
-use super::tables::INDEXES;
 use super::tables::PLACES;
 use super::tables::STARTS;
 use super::tables::WORDS;
@@ -47,12 +46,6 @@ pub fn places() -> [u16; 256]
     PLACES
 }
 
-pub fn indexes() -> [u16; 1120]
-    ensures { λ r. ⌜ r ≡ indexTable ⌝ }
-{
-    INDEXES
-}
-
 fn wide(x: u16) -> u32
     ensures { λ r. ⌜ r ≡ x ⌝ }
 {
@@ -70,11 +63,14 @@ pub fn place(places: &[u16], word: u32) -> usize
 }
 
 // The rank of a shape word of this degree.
-pub fn rank(word: u32, degree: u32) -> u32
-    requires { ⌜ Within degreeLimit word × (degree ≡ degreeOf (shapeOf word)) ⌝ }
+pub fn rank(words: &[u32], word: u32, degree: u32) -> u32
+    requires { ⌜ (now words ≡ shapeWords) × Within degreeLimit word × (degree ≡ degreeOf (shapeOf word)) ⌝ }
     ensures { λ r. ⌜ r ≡ rankOf (shapeOf word) ⌝ }
 {
-    let indexes = indexes();
-    let at = place(&places(), word);
-    wide(indexes[at]) - start(degree)
+    let start = start(degree);
+    let mut rank = 0u32;
+    while words[(start + rank) as usize] != word {
+        rank += 1;
+    }
+    rank
 }

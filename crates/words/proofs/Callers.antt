@@ -38,18 +38,32 @@ module _ {A : Type 0} (number : A → ℕ) (refused : ℕ → A) (its-number : (
 
 -- ---- words and numbers
 module _ (rows : List Row) (w : ℕ) (a : WordAnswer) (e : a ≡ worded rows w) where
+  abbrev of-word : WordAnswer → ℕ
+  of-word x = x .refused
+
+  abbrev no-word : ℕ → WordAnswer
+  no-word k = wordAnswer k 0
+
   pub word-given-by : a .refused ≡ 0 → (firstOf rows ≡ 0) × (a ≡ wordAnswer 0 w)
-  word-given-by = learnt-given (λ (x : WordAnswer). x .refused) (λ k. wordAnswer k 0) (λ k. refl) (firstOf rows) (wordAnswer 0 w) refl a e
+  word-given-by = learnt-given of-word no-word (λ k. refl) (firstOf rows) (wordAnswer 0 w) refl a e
 
   pub word-refused-by : (v : ℕ) → (a .refused ≡ 0 → ⊥) → a ≡ worded rows v
-  word-refused-by v = learnt-refused (λ (x : WordAnswer). x .refused) (λ k. wordAnswer k 0) (λ k. refl) (firstOf rows) (wordAnswer 0 w) refl a e (wordAnswer 0 v)
+  word-refused-by v =
+      learnt-refused of-word no-word (λ k. refl) (firstOf rows) (wordAnswer 0 w) refl a e (wordAnswer 0 v)
 
 module _ (rows : List Row) (z : ℤ) (a : NumberAnswer) (e : a ≡ numbered rows z) where
+  abbrev of-number : NumberAnswer → ℕ
+  of-number x = x .refused
+
+  abbrev no-number : ℕ → NumberAnswer
+  no-number k = numberAnswer k (pos 0)
+
   pub number-given-by : a .refused ≡ 0 → (firstOf rows ≡ 0) × (a ≡ numberAnswer 0 z)
-  number-given-by = learnt-given (λ (x : NumberAnswer). x .refused) (λ k. numberAnswer k (pos 0)) (λ k. refl) (firstOf rows) (numberAnswer 0 z) refl a e
+  number-given-by = learnt-given of-number no-number (λ k. refl) (firstOf rows) (numberAnswer 0 z) refl a e
 
   pub number-refused-by : (y : ℤ) → (a .refused ≡ 0 → ⊥) → a ≡ numbered rows y
-  number-refused-by y = learnt-refused (λ (x : NumberAnswer). x .refused) (λ k. numberAnswer k (pos 0)) (λ k. refl) (firstOf rows) (numberAnswer 0 z) refl a e (numberAnswer 0 y)
+  number-refused-by y =
+      learnt-refused of-number no-number (λ k. refl) (firstOf rows) (numberAnswer 0 z) refl a e (numberAnswer 0 y)
 
 -- ---- a column that has room for what is written
 pub record FrontGiven {A : Type 0} (xs : List A) (r : CountAnswer) (after : List A) : Type 0 where
@@ -61,7 +75,8 @@ module _ {A : Type 0} (rows : List Row) (xs column : List A) (numbers : every (�
     (room : firstOf rows ≡ 0 → length xs ≤ length column) where
   no-14-here : firstOf (rows ++ no-14 xs column ∷ []) ≡ firstOf rows
   no-14-here = elim (ℕ-discrete (firstOf rows) 0) [
-    | yes z ↦ none-refuses rows _ (none-applies rows numbers z) ∙ rw (le-ltb (length column) (length xs) (room z), z) refl
+    | yes z ↦
+        none-refuses rows _ (none-applies rows numbers z) ∙ rw (le-ltb (length column) (length xs) (room z), z) refl
     | no n ↦ first-refuses rows _ n
   ]
 
@@ -86,7 +101,8 @@ module _ {A : Type 0} (rows : List Row) (xs column : List A) (numbers : every (�
 
     pub front-given : firstOf rows ≡ 0 → FrontGiven xs r after
     front-given n =
-        let e = learnt-given number refused (λ k. refl) (firstOf rows) given refl (r, after) is-judged (column-refusal ∙ n) .1 in
+        let judgement = learnt-given number refused (λ k. refl) (firstOf rows) given refl (r, after) is-judged in
+        let e = judgement (column-refusal ∙ n) .1 in
         let count = ap (λ (x : Answer). x .0 .count) e in
         let whole = ap (λ (x : Answer). x .1) e in
         record {

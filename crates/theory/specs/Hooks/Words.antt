@@ -1,13 +1,13 @@
 -- Hooks of words (document 01, "Hook of length h"; "so that the word is again a good one"), for any word w.
 --   wordOf hook     the hook with the word of what it leaves
 --   Left h w hook   the hook leaves a good word, whose degree is less than that of w by h
-use mathlib.Core.Path.{_≡_, sym, _∙_, ap}
+use mathlib.Core.Path.{_≡_, refl, sym, _∙_, ap}
 use mathlib.Core.List.{map-map}
 use Prim.Native.Nat.{_≤_}
 use native.Mathlib.Omega.{arith}
 use lib.ListN.{length-map}
-use borrow.Author.Tests.{lt-ltb}
-use Rattle.theory.specs.Basics.{true, map, length, ℕ, _+_, _^_, sum}
+use borrow.Author.Tests.{eq-eqb, lt-ltb}
+use Rattle.theory.specs.Basics.{true, _∷_, map, length, ℕ, _+_, _^_, sum}
 use Rattle.theory.specs.Basics.Laws.{Each, each-map, map-same, sum-map, sum-same}
 use Rattle.theory.specs.Partition.{Parts, degree, times, without}
 use Rattle.theory.specs.Partition.Laws.{NoZero}
@@ -76,3 +76,10 @@ hook-rule-words h c n occurs w =
     ∙ sum-same (Taken h w) _ _ (hooks h (digits width w))
     (λ hook e. ap (λ rs. signed (hook .minus) (rs on without h c)) (sym (shape-left h w hook e))) (taken h w)
     ∙ sym (sum-map _ wordOf (hooks h (digits width w)))
+
+-- and where the first cycle is struck
+pub hook-rule-first : (h : ℕ) (c : Parts) → NoZero (h ∷ c) → (w : ℕ)
+    → shapeOf w on (h ∷ c) ≡ sum (λ hook. signed (hook .minus) (shapeOf (hook .leaves) on c)) (hookWords h w)
+hook-rule-first h c n w =
+    let t = eq-eqb h h refl in
+    rw t at (hook-rule-words h (h ∷ c) n (rw t (λ absent. omega arith)) w)

@@ -3,20 +3,22 @@
 --   wordsBelow m   the words of the shapes of the degrees below m, degree by degree, each degree in listing order
 --   start n        where degree n starts there, for any m above n
 --   index w        where w stands there, if it is good and the degree of its shape is below m
-use mathlib.Core.Path.{_≡_, sym, _∙_, ap}
+use mathlib.Core.Path.{_≡_, refl, _∙_, ap}
 use Prim.Native.Nat.{_≤_, _<_}
 use native.Mathlib.Nat.{le-refl}
 use native.Mathlib.Decide.{ℕ-discrete}
 use native.Mathlib.Omega.{arith}
 use lib.ListN.{length-append, length-map, List·getD-append}
 use lib.Seq.{getD-append-add}
-use Rattle.theory.specs.Basics.{true, List, [], _∷_, _++_, map, ℕ, zero, suc, _+_, length, getD}
+use Rattle.theory.specs.Basics.{true, List, [], _∷_, _++_, map, ℕ, zero, suc, _+_, _-_, length, getD, take, total}
 use Rattle.theory.specs.Basics.Places.{map-at}
 use Rattle.theory.specs.Partition.{degree}
 use Rattle.theory.specs.Digits.{width}
 use Rattle.theory.specs.ShapeWord.{shapeWord, shapeOf, goodShape}
-use Rattle.theory.specs.ShapeWord.Words.{TheWord, the-word, the-shape, small-fits}
-use Rattle.theory.specs.Listing.{listing, rank}
+use Rattle.theory.specs.ShapeWord.Words.{the-word, the-shape, small-fits}
+use Rattle.theory.specs.Refusals.{degreeLimit}
+use Rattle.theory.specs.Listing.{listing, rank, partitionCounts}
+use Rattle.theory.specs.Listing.Laws.{count-kept}
 use Rattle.theory.specs.Listing.Ranks.{at-rank, listed}
 
 -- ---- one degree
@@ -57,6 +59,24 @@ start-rises n (suc m) h = elim (ℕ-discrete n (suc m)) [
   | no f ↦ omega (arith, start-next m, start-rises n m (omega arith))
 ]
 
+total-take : (ns : List ℕ) (n : ℕ) → n < length ns → total (take (suc n) ns) ≡ total (take n ns) + getD ns n 0
+total-take [] n h = absurd (omega arith)
+total-take (m ∷ ns) zero h = omega arith
+total-take (m ∷ ns) (suc n) h = omega (arith, total-take ns n (omega arith))
+
+-- starts are the running sums of the counts
+pub start-summed : (n : ℕ) → n ≤ suc degreeLimit → start n ≡ total (take n partitionCounts)
+unfolding wordsBelow partitionCounts
+start-summed zero h = refl
+start-summed (suc n) h =
+    omega (
+      arith,
+      start-next n,
+      start-summed n (omega arith),
+      count-kept n (omega arith),
+      total-take partitionCounts n (omega arith),
+    )
+
 pub start-within : (m n i : ℕ) → n < m → i < length (listing n) → start n + i < start m
 start-within m n i h l = omega (arith, start-next n, start-rises (suc n) m h)
 
@@ -74,6 +94,15 @@ word-at (suc m) n i h l = elim (ℕ-discrete n m) [
       (start-within m n i (omega arith) l)
       ∙ word-at m n i (omega arith) l
 ]
+
+-- between the starts of a degree and of the next stand the words of the degree
+pub ranked-at : (m n i : ℕ) → n < m → n < width → start n ≤ i → i < start (suc n)
+    → Ranked n (i - start n) (getD (wordsBelow m) i 0)
+ranked-at m n i h s from to =
+    let l : i - start n < length (listing n) = omega (arith, start-next n) in
+    let e : start n + (i - start n) ≡ i = omega arith in
+    let at = word-at m n (i - start n) h l in
+    rw (rw e at at) (word-ranked n (i - start n) s l)
 
 abbrev pub index : ℕ → ℕ
 index w = start (degree (shapeOf w)) + rank (shapeOf w)

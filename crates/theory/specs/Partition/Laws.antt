@@ -9,7 +9,7 @@ use native.Mathlib.Decide.{ℕ-discrete}
 use native.Mathlib.Omega.{arith}
 use lib.Dec.{eqb·suc-zero}
 use borrow.Author.Tests.{leb-true, ltb-true, le-leb, lt-leb, lt-ltb, eq-eqb, ne-eqb}
-use Rattle.theory.specs.Basics.{Bool, true, false, _&&_, [], _∷_, _++_, ℕ, zero, suc, _+_, length, _<?_, _≤?_}
+use Rattle.theory.specs.Basics.{Bool, true, false, _&&_, [], _∷_, _++_, ℕ, zero, suc, _+_, length, drop, _<?_, _≤?_}
 use Rattle.theory.specs.Basics.Laws.{both}
 use Rattle.theory.specs.Partition.{Parts, first, isPartition, degree, times, without}
 
@@ -69,6 +69,17 @@ pub no-zero : (ps : Parts) → isPartition ps ≡ true → NoZero ps
 no-zero [] e = none
 no-zero (zero ∷ ps) e = absurd (false≢true e)
 no-zero (suc p ∷ ps) e = some (no-zero ps (front (suc p) ps e .rest))
+
+-- ---- the first parts left away
+pub no-zero-drop : (i : ℕ) {ps : Parts} → NoZero ps → NoZero (drop i ps)
+no-zero-drop zero k = k
+no-zero-drop (suc i) none = none
+no-zero-drop (suc i) (some k) = no-zero-drop i k
+
+pub degree-drop : (i : ℕ) (ps : Parts) → degree (drop i ps) ≤ degree ps
+degree-drop zero ps = omega arith
+degree-drop (suc i) [] = omega arith
+degree-drop (suc i) (p ∷ ps) = omega (arith, degree-drop i ps)
 
 -- ---- one part taken out
 pub record Split (m : ℕ) (ps : Parts) : Type 0 where

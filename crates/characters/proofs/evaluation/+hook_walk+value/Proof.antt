@@ -4,6 +4,7 @@ use mathlib.Core.Path.{sym, _∙_}
 use Prim.Native.Nat.{ℕ, _+_, _-_, _*_, _%_, _^_, _<_}
 use native.Mathlib.Omega.{arith}
 use lib.Count.{leadingZeros}
+use lib.IntN.{ℤ}
 use mir.Syntax.{w64}
 use mir.Val.{toZ}
 use borrow.Fn.Kinds.{In}
@@ -11,7 +12,9 @@ use borrow.Fn.PlainCycle.{Measures, is, falls, and}
 use Rattle.theory.specs.Partition.{degree}
 use Rattle.theory.specs.ShapeWord.{shapeOf}
 use Rattle.theory.specs.ClassWord.{classOf}
-use Rattle.characters.proofs.Walks.{Walked, Turn, walk-start, walk-turn, walk-end}
+use Rattle.theory.specs.Character.{_on_}
+use Rattle.characters.proofs.HookSums.{Walked, Turn, walk-start, walk-turn, walk-end}
+use Rattle.characters.proofs.Walks.{walk as walkable, fit-left, degree-falls, struck}
 use Rattle.characters.proofs.Walks.{First, value-empty, value-first, character-carried}
 use Rattle.characters.proofs.evaluation.hook_walk.Reads as walk
 use Rattle.characters.proofs.evaluation.hook_walk.Kinds as walk-kinds
@@ -32,8 +35,11 @@ abbrev μ-walk : Measures 0 walk-kinds.ps ℕ
 abbrev μ-value : Measures 0 value-kinds.ps ℕ
 μ-value κs a = degree (shapeOf (a .0)) * 2 + 1
 
+abbrev on-class : ℕ → ℕ → ℤ
+on-class class s = shapeOf s on classOf class
+
 abbrev Inv-loop : walk-lts.InvT-loop
-Inv-loop shape cycle class left₀ sum₀ left sum = Walked shape cycle (classOf class) left (toZ w64 sum)
+Inv-loop shape cycle class left₀ sum₀ left sum = Walked (on-class class) shape cycle left (toZ w64 sum)
 
 abbrev μ-loop : walk-lts.MeasureT-loop
 μ-loop shape cycle class left₀ sum₀ left sum = left
@@ -73,13 +79,14 @@ module _ (t : ℕ) where
   marks-requires c κs = omega (arith, c .pre .1 .1 .degrees, c .pre .1 .1 .small)
 
   loop-holds : walk-lts.Need-loop-holds walk-calls walk-at walk.Post Inv-loop μ-loop
-  loop-holds c = rw (c .marks .ensures) (walk-start _ _ _ (c .before .pre .1 .1))
+  loop-holds c = rw (c .marks .ensures) (walk-start _ _ _ (walkable _ _ _ (c .before .pre .1 .1)))
 
   turn : (c : walk-lts.In-loop walk-calls walk-at walk.Post Inv-loop μ-loop)
-      → Turn (c .before .before .before .args .shape) (c .before .before .before .args .cycle)
-      (classOf (c .before .before .before .args .class)) (c .before .loop .left) (toZ w64 (c .before .loop .sum))
+      → let a = c .before .before .before .args in
+      Turn (on-class (a .class)) (a .shape) (a .cycle) (c .before .loop .left) (toZ w64 (c .before .loop .sum))
       (leadingZeros 32 (c .before .loop .left)) (1 * 2 ^ (31 - leadingZeros 32 (c .before .loop .left)) % 2 ^ 32)
-  turn c = walk-turn _ _ _ (c .before .before .before .pre .1 .1) _ _ (c .before .loop .inv) (c .loop-test .taken)
+  turn c = walk-turn _ _ _ (walkable _ _ _ (c .before .before .before .pre .1 .1)) _ _ (c .before .loop .inv)
+      (c .loop-test .taken)
 
   sub-place : walk-lts.Need-sub-place walk-calls walk-at walk.Post Inv-loop μ-loop
   sub-place c = turn c .within
@@ -89,9 +96,11 @@ module _ (t : ℕ) where
 
   value-requires : walk-lts.Need-value-requires walk-calls walk-at walk.Post Inv-loop μ-loop
   value-requires c κs =
-      let u = turn (c .before) in
+      let good = turn (c .before) .left-good in
       let start = c .before .before .before .before in
-      rw (c .leaves .ensures) (omega (arith, u .falls, start .pre .0), (start .pre .1 .0, u .smaller))
+      let fit = start .pre .1 .1 in
+      rw (c .leaves .ensures)
+      (omega (arith, degree-falls _ _ _ fit _ good, start .pre .0), (start .pre .1 .0, fit-left _ _ _ fit _ good))
 
   minus-requires : walk-lts.Need-minus-requires walk-calls walk-at walk.Post Inv-loop μ-loop
   minus-requires c κs = (turn (c .before .before) .from, turn (c .before .before) .below)
@@ -120,7 +129,8 @@ module _ (t : ℕ) where
 
   walk-returns : walk-lts.Need-returns walk-calls walk-at walk.Post Inv-loop μ-loop
   walk-returns c =
-      walk-end _ _ _ (c .before .before .before .pre .1 .1) _ (rw (c .loop-test .left) at (c .before .loop .inv))
+      let fit = c .before .before .before .pre .1 .1 in
+      walk-end _ _ _ (walkable _ _ _ fit) _ (rw (c .loop-test .left) at (c .before .loop .inv)) ∙ struck _ _ _ fit
 
   -- ---- the value
   returns : value-lts.Need-returns value-calls value-at value.Post

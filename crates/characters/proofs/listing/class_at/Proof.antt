@@ -1,5 +1,5 @@
 -- characters::listing::class_at meets its contract: the parts of the shape word are the partition of that rank.
-use mathlib.Core.Path.{_≡_, sym}
+use mathlib.Core.Path.{sym}
 use lib.Seq.{length-take-le}
 use borrow.Author.Needs.{needs}
 use Rattle.words.proofs.Callers.{FrontGiven}
@@ -41,7 +41,8 @@ returns-2 : tie.Need-returns-2
 returns-2 c =
     let parts = c .before .before .before in
     let shape = parts .before .before .before .before .shape-at in
-    class-given _ _ (shape .result) (shape .ensures) (parts .before .before .if1 .left) _ _ (parts .parts2 .ensures) _ (c .word .ensures)
+    class-given _ _ (shape .result) (shape .ensures) (parts .before .before .if1 .left) _ _ (parts .parts2 .ensures) _
+    (c .word .ensures)
 
 pub class-at-spec : {M : Type 1} → statement M
 class-at-spec =

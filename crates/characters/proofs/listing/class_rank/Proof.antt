@@ -1,5 +1,5 @@
 -- characters::listing::class_rank meets its contract: a class word has the rank of the shape with the same parts.
-use mathlib.Core.Path.{_≡_, sym}
+use mathlib.Core.Path.{sym}
 use lib.Seq.{length-take-le}
 use borrow.Author.Needs.{needs}
 use Rattle.theory.specs.ClassWord.{classOf}
@@ -41,8 +41,8 @@ returns-2 : tie.Need-returns-2
 returns-2 c =
     let left = c .before .before .before in
     let parts = left .before .before .before in
-    class-ranked (parts .before .before .args .word) _ _ (parts .parts2 .ensures) (left .if1 .left) _ (c .before .word .ensures) _
-    (c .shape-rank .ensures)
+    class-ranked (parts .before .before .args .word) _ _ (parts .parts2 .ensures) (left .if1 .left) _
+    (c .before .word .ensures) _ (c .shape-rank .ensures)
 
 pub class-rank-spec : {M : Type 1} → statement M
 class-rank-spec =

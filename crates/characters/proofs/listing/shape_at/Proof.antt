@@ -1,17 +1,15 @@
 -- characters::listing::shape_at meets its contract: the words of a degree stand from its start on, in listing order.
-use mathlib.Core.Path.{_≡_, _∙_, ap, ap₂}
-use Prim.Native.Nat.{_<_, _≤_}
+use mathlib.Core.Path.{_∙_, ap₂}
+use Prim.Native.Nat.{_<_}
 use native.Mathlib.Omega.{arith}
 use borrow.Author.Needs.{needs}
-use Rattle.theory.specs.Basics.{List, ℕ, suc, _+_, length, getD}
-use Rattle.theory.specs.ShapeWord.{shapeWord}
-use Rattle.theory.specs.Listing.{listing}
+use Rattle.theory.specs.Basics.{List, ℕ, suc, _+_, getD}
 use Rattle.theory.specs.Listing.Words.{word-at}
 use Rattle.theory.specs.Refusals.{degreeLimit}
 use Rattle.words.proofs.Answers.{word-refused, word-given}
 use Rattle.characters.specs.Calls.{shapeAt}
 use Rattle.characters.proofs.Places.{index-below}
-use Rattle.characters.proofs.Ranks.{at, rows, Listed, degree-refused, rank-refused, none-refused}
+use Rattle.characters.proofs.Ranks.{rows, Listed, degree-refused, rank-refused, none-refused}
 use Rattle.characters.proofs.listing.shape_at.Statement.{statement}
 use Rattle.characters.proofs.listing.shape_at.Tie as tie
 
@@ -19,7 +17,8 @@ returns : tie.Need-returns
 unfolding shapeAt
 returns c =
     let a = c .before .args in
-    word-refused (rows (a .degree) (a .rank)) _ 12 (degree-refused (a .degree) (a .rank) (omega arith)) (λ z. omega arith)
+    let refuses = degree-refused (a .degree) (a .rank) (omega arith) in
+    word-refused (rows (a .degree) (a .rank)) _ 12 refuses (λ z. omega arith)
 
 count-requires : tie.Need-count-requires
 count-requires c κs = search needs
@@ -28,7 +27,8 @@ returns-2 : tie.Need-returns-2
 unfolding shapeAt
 returns-2 c =
     let a = c .before .before .before .args in
-    word-refused (rows (a .degree) (a .rank)) _ 11 (rank-refused (a .degree) (a .rank) (omega arith) (omega (arith, c .before .count .ensures))) (λ z. omega arith)
+    let refuses = rank-refused (a .degree) (a .rank) (omega arith) (omega (arith, c .before .count .ensures)) in
+    word-refused (rows (a .degree) (a .rank)) _ 11 refuses (λ z. omega arith)
 
 words-requires : tie.Need-words-requires
 words-requires c κs = search needs

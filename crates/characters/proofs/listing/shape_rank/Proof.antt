@@ -1,5 +1,5 @@
 -- characters::listing::shape_rank meets its contract: the word is refused with its degree, or the table has its rank.
-use mathlib.Core.Path.{_≡_, refl, _∙_, ap}
+use mathlib.Core.Path.{_∙_, ap}
 use native.Mathlib.Omega.{arith}
 use mir.Facts.{toZ-pos}
 use mir.Syntax.{w64}
@@ -17,31 +17,49 @@ returns c =
     let d = c .before .before .degree in
     shape-rank-refused (c .before .before .before .args .word) (d .result) (d .ensures) (c .if1 .taken)
 
+words-requires : tie.Need-words-requires
+words-requires c κs = search needs
+
+slice-aggregate-rank : tie.Need-slice-aggregate-rank
+slice-aggregate-rank c = search needs
+
 cast-rank : tie.Need-cast-rank
 cast-rank c =
-    let d = c .before .before .before .before .degree in
-    let w = c .before .before .before .before .before .args .word in
-    let e = degree-read w (d .result) (d .ensures) (c .before .before .if1 .left) in
-    let small = shape-within w (d .result) (d .ensures) (c .before .before .if1 .left) .small in
-    rw e (tt, omega (arith, small))
+    let left = c .before .before .before .before in
+    let d = left .before .before .degree in
+    let w = left .before .before .before .args .word in
+    let small = shape-within w (d .result) (d .ensures) (left .if1 .left) .small in
+    rw (degree-read w (d .result) (d .ensures) (left .if1 .left)) (tt, omega (arith, small))
 
 rank-requires : tie.Need-rank-requires
 rank-requires c κs =
-    let d = c .before .before .before .before .degree in
-    let w = c .before .before .before .before .before .args .word in
-    let z = c .before .before .if1 .left in
-    (shape-within w (d .result) (d .ensures) z, ap natAbs (degree-read w (d .result) (d .ensures) z))
+    let left = c .before .before .before .before in
+    let d = left .before .before .degree in
+    let w = left .before .before .before .args .word in (
+      c .before .before .before .words .ensures,
+      shape-within w (d .result) (d .ensures) (left .if1 .left),
+      ap natAbs (degree-read w (d .result) (d .ensures) (left .if1 .left)),
+    )
 
-cast-t6 : tie.Need-cast-t6
-cast-t6 c = search needs
+cast-t10 : tie.Need-cast-t10
+cast-t10 c = search needs
 
 returns-2 : tie.Need-returns-2
 returns-2 c =
-    let d = c .before .before .before .before .before .degree in
-    let w = c .before .before .before .before .before .before .args .word in
-    shape-ranked w (d .result) (d .ensures) (c .before .before .before .if1 .left) _
+    let left = c .before .before .before .before .before in
+    let d = left .before .before .degree in
+    shape-ranked (left .before .before .before .args .word) (d .result) (d .ensures) (left .if1 .left) _
     (toZ-pos w64 (omega arith) ∙ ap pos (c .rank .ensures))
 
 pub shape-rank-spec : {M : Type 1} → statement M
 shape-rank-spec =
-    tie.close (tie.spec degree-requires returns cast-rank rank-requires cast-t6 returns-2)
+    tie.close
+    (tie.spec
+    degree-requires
+    returns
+    words-requires
+    slice-aggregate-rank
+    cast-rank
+    rank-requires
+    cast-t10
+    returns-2)

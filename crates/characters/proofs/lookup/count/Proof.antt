@@ -1,5 +1,5 @@
 -- characters::lookup::count meets its contract: the constants are document 01's.
-use mathlib.Core.Path.{_≡_, sym}
+use mathlib.Core.Path.{sym}
 use borrow.Author.Needs.{needs}
 use Rattle.theory.specs.Listing.{partitionCounts}
 use Rattle.theory.specs.Listing.Laws.{count-kept}

@@ -30,7 +30,9 @@ sum-is c =
     ap (λ (x : ℕ). x + t / 2 ^ 14 % 256) high
 
 add-result : tie.Need-add-result
-add-result c = let begin = c .before .before .before in omega (arith, sum-is c, place-below (begin .args .word) (begin .pre .1))
+add-result c =
+    let begin = c .before .before .before in
+    omega (arith, sum-is c, place-below (begin .args .word) (begin .pre .1))
 
 cast-result : tie.Need-cast-result
 cast-result c = search needs

@@ -1,5 +1,5 @@
 -- characters::lookup::places meets its contract: the two tables are one.
-use mathlib.Core.Path.{_≡_, refl}
+use mathlib.Core.Path.{refl}
 use Rattle.characters.specs.Places.{places}
 use Rattle.characters.proofs.lookup.places.Statement.{statement}
 use Rattle.characters.proofs.lookup.places.Tie as tie

@@ -1,70 +1,94 @@
--- characters::lookup::rank meets its contract: the index at the word's place is where its degree starts plus its rank.
-use mathlib.Core.Path.{_≡_, _∙_, ap, ap₂}
+-- characters::lookup::rank meets its contract. The loop's invariant: the word's rank is not passed. The measure is how
+-- far ahead it is.
+use mathlib.Core.Path.{_≡_, sym, _∙_, ap, ap₂}
+use Prim.Native.Nat.{_≤_, _<_, _-_}
 use native.Mathlib.Omega.{arith}
 use borrow.Author.Needs.{needs}
-use borrow.Author.Tests.{ltb-true}
-use Rattle.theory.specs.Basics.{List, ℕ, getD, _^_}
+use Rattle.theory.specs.Basics.{List, ℕ, _+_, getD, length}
 use Rattle.theory.specs.Partition.{degree}
 use Rattle.theory.specs.ShapeWord.{shapeOf}
-use Rattle.theory.specs.Listing.Words.{start, index}
-use Rattle.characters.proofs.Places.{index-placed}
+use Rattle.theory.specs.Listing.{rank}
+use Rattle.theory.specs.Listing.Words.{start}
+use Rattle.characters.specs.Tables.{shapeWords}
+use Rattle.characters.proofs.Places.{shapeWords-length, rank-inside, rank-found, rank-ahead}
 use Rattle.characters.proofs.lookup.rank.Statement.{statement}
 use Rattle.characters.proofs.lookup.rank.Tie as tie
 
-indexes-requires : tie.Need-indexes-requires
-indexes-requires c κs = search needs
+abbrev Inv-loop : tie.InvT-loop
+Inv-loop words word n from i₀ i = i ≤ rank (shapeOf word)
 
-places-requires : tie.Need-places-requires
-places-requires c κs = search needs
+abbrev μ-loop : tie.MeasureT-loop
+μ-loop words word n from i₀ i = rank (shapeOf word) - i
 
-slice-aggregate-place : tie.Need-slice-aggregate-place
-slice-aggregate-place c = search needs
-
-place-requires : tie.Need-place-requires
-place-requires c κs =
-    let begin = c .before .before .before in
-    (c .before .places .ensures, ltb-true (begin .args .word) (2 ^ 30) (begin .pre .0 .good))
-
-mul-wide : tie.Need-mul-wide
-mul-wide c = search needs
-
-array-read-wide : tie.Need-array-read-wide
-array-read-wide c = search needs
-
-wide-requires : tie.Need-wide-requires
-wide-requires c κs = search needs
-
-start-requires : tie.Need-start-requires
+start-requires : tie.Need-start-requires Inv-loop μ-loop
 start-requires c κs = search needs
 
-index-read : (c : tie.After-wide) → c .wide .result ≡ index (c .before .before .before .before .before .args .word)
-index-read c =
-    let begin = c .before .before .before .before .before in
-    let table = c .before .before .before .before .indexes in
-    c .wide .ensures
-    ∙ ap₂ (λ (l : List ℕ) (i : ℕ). getD l i 0) (table .ensures) (c .before .place .ensures .0)
-    ∙ index-placed (begin .args .word) (begin .pre .0)
+loop-holds : tie.Need-loop-holds Inv-loop μ-loop
+loop-holds c = search needs
 
-start-read : (c : tie.After-start) → c .start .result ≡ start (degree (shapeOf (c .before .before .before .before .before .before .args .word)))
-start-read c = c .start .ensures ∙ ap start (c .before .before .before .before .before .before .pre .1)
+from : (c : tie.At-loop Inv-loop μ-loop)
+    → c .before .start .result ≡ start (degree (shapeOf (c .before .before .before .args .word)))
+from c = c .before .start .ensures ∙ ap start (c .before .before .before .pre .2)
 
-sub-result : tie.Need-sub-result
-sub-result c = omega (arith, index-read (c .before), start-read c)
+inside : (c : tie.At-loop Inv-loop μ-loop) → c .before .start .result + c .loop .rank < 915
+inside c =
+    let begin = c .before .before .before in
+    omega (arith, from c, rank-inside (begin .args .word) (c .loop .rank) (begin .pre .1) (c .loop .inv))
 
-returns : tie.Need-returns
-returns c = omega (arith, index-read (c .before), start-read c)
+read : (c : tie.At-loop Inv-loop μ-loop)
+    → let begin = c .before .before .before in
+    getD (begin .args .words .now) (c .before .start .result + c .loop .rank) 0
+    ≡ getD shapeWords (start (degree (shapeOf (begin .args .word))) + c .loop .rank) 0
+read c = ap₂ (λ (l : List ℕ) (k : ℕ). getD l (k + c .loop .rank) 0) (c .before .before .before .pre .0) (from c)
+
+add-if1 : tie.Need-add-if1 Inv-loop μ-loop
+add-if1 c = omega (arith, inside c)
+
+cast-if1 : tie.Need-cast-if1 Inv-loop μ-loop
+cast-if1 c = omega (arith, inside c)
+
+mul-if1 : tie.Need-mul-if1 Inv-loop μ-loop
+mul-if1 c = omega (arith, inside c)
+
+shared-slice-read-if1 : tie.Need-shared-slice-read-if1 Inv-loop μ-loop
+shared-slice-read-if1 c =
+    omega (arith, inside (c .before), ap length (c .before .before .before .before .pre .0), shapeWords-length)
+
+ahead : (c : tie.Then1 Inv-loop μ-loop) → let l = c .before .before in
+    l .loop .rank < rank (shapeOf (l .before .before .before .args .word))
+ahead c =
+    let l = c .before .before in
+    let begin = l .before .before .before in
+    rank-ahead (begin .args .word) (l .loop .rank) (begin .pre .1) (l .loop .inv) (λ e. c .if1 .taken (read l ∙ e))
+
+add-rank : tie.Need-add-rank Inv-loop μ-loop
+add-rank c = omega (arith, ahead c, inside (c .before .before))
+
+loop-less : tie.Need-loop-less Inv-loop μ-loop
+loop-less c = omega (arith, ahead c)
+
+loop-again : tie.Need-loop-again Inv-loop μ-loop
+loop-again c = omega (arith, ahead c)
+
+returns : tie.Need-returns Inv-loop μ-loop
+returns c =
+    let l = c .before .before in
+    let begin = l .before .before .before in
+    sym (rank-found (begin .args .word) (l .loop .rank) (begin .pre .1) (l .loop .inv) (sym (read l) ∙ c .if1 .left))
 
 pub rank-spec : {M : Type 1} → statement M
 rank-spec =
     tie.close
     (tie.spec
-    indexes-requires
-    places-requires
-    slice-aggregate-place
-    place-requires
-    mul-wide
-    array-read-wide
-    wide-requires
+    Inv-loop
+    μ-loop
     start-requires
-    sub-result
+    loop-holds
+    add-if1
+    cast-if1
+    mul-if1
+    shared-slice-read-if1
+    add-rank
+    loop-less
+    loop-again
     returns)

@@ -1,11 +1,11 @@
--- characters::lookup::start meets its contract: each entry is computed.
-use mathlib.Core.Path.{_≡_, refl}
+-- characters::lookup::start meets its contract: each entry is the sum of the counts before it.
+use mathlib.Core.Path.{refl, sym, _∙_}
 use native.Mathlib.Omega.{arith}
 use borrow.Author.Needs.{needs}
-use Rattle.theory.specs.Basics.{List, [], _∷_, ℕ}
+use Rattle.theory.specs.Basics.{List, [], _∷_, ℕ, take, total}
 use Rattle.theory.specs.Basics.Places.{tabled-at}
-use Rattle.theory.specs.Listing.{listing, partitions}
-use Rattle.theory.specs.Listing.Words.{wordsBelow, start}
+use Rattle.theory.specs.Listing.{partitionCounts}
+use Rattle.theory.specs.Listing.Words.{start-summed}
 use Rattle.characters.proofs.lookup.start.Statement.{statement}
 use Rattle.characters.proofs.lookup.start.Tie as tie
 
@@ -20,8 +20,10 @@ array-read-result : tie.Need-array-read-result
 array-read-result c = search needs
 
 returns : tie.Need-returns
-unfolding wordsBelow listing partitions
-returns c = tabled-at start starts (c .args .degree) refl (omega arith)
+unfolding partitionCounts
+returns c =
+    let n = c .args .degree in
+    tabled-at (λ n. total (take n partitionCounts)) starts n refl (omega arith) ∙ sym (start-summed n (c .pre))
 
 pub start-spec : {M : Type 1} → statement M
 start-spec = tie.close (tie.spec mul-result array-read-result returns)

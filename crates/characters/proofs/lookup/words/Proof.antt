@@ -1,5 +1,5 @@
 -- characters::lookup::words meets its contract: the listings and their words are computed.
-use mathlib.Core.Path.{_≡_, refl}
+use mathlib.Core.Path.{refl}
 use Rattle.theory.specs.Digits.{word}
 use Rattle.theory.specs.Listing.{listing, partitions}
 use Rattle.theory.specs.Listing.Words.{wordsBelow}

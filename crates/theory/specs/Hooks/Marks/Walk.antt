@@ -7,22 +7,18 @@ use Prim.Native.Nat.{_<_, _≤_}
 use native.Mathlib.Nat.{div-eq-of-lt, lt-of-le-of-lt, lt-of-not-le, not-le-of-lt}
 use native.Mathlib.Decide.{ℕ-discrete}
 use native.Mathlib.Omega.{arith}
-use borrow.Author.Tests.{leb-true, eq-eqb}
+use borrow.Author.Tests.{leb-true}
 use lib.Count.{leadingZeros, leading-top}
 use lib.Pow.{pow-pos, pow-mono, high, low}
-use Rattle.theory.specs.Basics.{Bool, true, false, not, cond, List, [], _∷_}
-use Rattle.theory.specs.Basics.{ℕ, zero, suc, _+_, _-_, _*_, _%_, _^_, _≤?_, sum}
+use Rattle.theory.specs.Basics.{Bool, true, false, not, cond, List, [], _∷_, length}
+use Rattle.theory.specs.Basics.{ℕ, zero, suc, _+_, _-_, _*_, _%_, _^_, _≤?_, ℤ, sum}
 use Rattle.theory.specs.Basics.Laws.{both, Each, each-same, each-both, each-mapped, sum-map}
-use Rattle.theory.specs.Partition.{Parts}
-use Rattle.theory.specs.Partition.Laws.{NoZero}
 use Rattle.theory.specs.Digits.{bit, width}
 use Rattle.theory.specs.Digits.Laws.{one-shifted}
 use Rattle.theory.specs.Digits.Bits.{bitBelow, bit-rest}
-use Rattle.theory.specs.ShapeWord.{shapeOf}
-use Rattle.theory.specs.Character.{_on_}
-use Rattle.theory.specs.Hooks.{signed}
-use Rattle.theory.specs.Hooks.Words.{Left, hooks-leave, hook-rule-words}
-use Rattle.theory.specs.Hooks.Marks.{marks, places, minusAt, markedHook}
+use Rattle.theory.specs.Hooks.{Hook, hookWords}
+use Rattle.theory.specs.Hooks.Words.{Left, hooks-leave}
+use Rattle.theory.specs.Hooks.Marks.{marks, places, markedHook}
 use Rattle.theory.specs.Hooks.Marks.Laws.{begins, bit-marks, hooks-marked}
 
 -- ---- the highest place
@@ -84,6 +80,16 @@ highest W x p h = go (leadingZeros (suc W) x) (leading-top (suc W) x p (omega ar
           rest = rw (one, place) (rw whole at (places-top W j (x - 2 ^ j) below (omega arith)));
         }
 
+-- there are no more than there are digits
+pub places-few : (n x : ℕ) → length (places n x) ≤ n
+unfolding places
+places-few zero x = omega arith
+places-few (suc n) x = go (bit n x) (places-few n x)
+  where
+    go : (d : Bool) → length (places n x) ≤ n → length (cond d (n ∷ places n x) (places n x)) ≤ suc n
+    go true l = omega arith
+    go false l = omega arith
+
 -- ---- the places of the marks
 pub record Begun (h s b : ℕ) : Type 0 where
   pub from : h ≤ b
@@ -115,10 +121,7 @@ module _ (h s : ℕ) (long : 1 ≤ h) (small : s < 2 ^ 31) where
           let f = both (not (bit b s)) (bitBelow h b s) e .1 in
           record { from = leb-true h b (both (h ≤? b) (bit (b - h) s) f .0); below = l; left = left }
 
-  -- the character, struck by a cycle h, as a sum over the places
-  pub character-marked : (c : Parts) → NoZero (h ∷ c) → shapeOf s on (h ∷ c)
-      ≡ sum (λ b. signed (minusAt s h b) (shapeOf (markedHook h s b .leaves) on c)) (places width (marks s h))
-  character-marked c n =
-      let t = eq-eqb h h refl in
-      rw (t, hooks-marked h s long small) at (hook-rule-words h (h ∷ c) n (rw t (λ absent. omega arith)) s)
-      ∙ sum-map _ (markedHook h s) (places width (marks s h))
+  -- a sum over the hooks as a sum over the places
+  pub sum-marked : (f : Hook ℕ → ℤ) → sum f (hookWords h s)
+      ≡ sum (λ b. f (markedHook h s b)) (places width (marks s h))
+  sum-marked f = rw (hooks-marked h s long small) (sum-map f (markedHook h s) (places width (marks s h)))

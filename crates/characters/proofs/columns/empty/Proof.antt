@@ -1,0 +1,22 @@
+-- `characters::columns::empty` meets its contract.
+use mathlib.Core.Path.{refl}
+use borrow.Author.Needs.{needs}
+use Rattle.characters.specs.Tables.{placeCount}
+use Rattle.characters.proofs.KeptTables.{kept-empty}
+use Rattle.characters.proofs.columns.empty.Statement.{statement}
+use Rattle.characters.proofs.columns.empty.Tie as tie
+
+place-requires : tie.Need-place-requires
+place-requires c κs = search needs
+
+mul-table : tie.Need-mul-table
+mul-table c = search needs
+
+array-set-of-table : tie.Need-array-set-of-table
+array-set-of-table c = search needs
+
+returns : tie.Need-returns
+returns c = kept-empty placeCount (c .place .result) refl (c .place .ensures .0)
+
+pub empty-spec : {M : Type 1} → statement M
+empty-spec = tie.close (tie.spec place-requires mul-table array-set-of-table returns)

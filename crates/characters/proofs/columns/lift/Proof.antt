@@ -1,0 +1,133 @@
+use mathlib.Core.Path.{_∙_}
+use Prim.Native.Nat.{ℕ, suc, _+_, _-_, _<_}
+use native.Mathlib.Omega.{arith}
+use borrow.Author.Needs.{needs}
+use Rattle.theory.specs.Basics.{_∷_, drop, getD}
+use Rattle.theory.specs.Partition.{degree}
+use Rattle.theory.specs.Listing.Words.{start}
+use Rattle.characters.proofs.KeptTables.{Cut, cut, Lifting, Turn, lift-start, lift-turn, lift-next, lift-end}
+use Rattle.characters.proofs.columns.lift.Statement.{statement}
+use Rattle.characters.proofs.columns.lift.Tie as tie
+use Rattle.characters.proofs.columns.lift.Reads as reads
+use Rattle.characters.proofs.columns.lift.Lts as lts
+use Rattle.characters.proofs.columns.hook_sum.Reads as hook-sum-reads
+use Rattle.characters.proofs.lookup.place.Reads as place-reads
+use Rattle.characters.proofs.lookup.start.Reads as start-reads
+
+abbrev Inv-loop : tie.InvT-loop
+Inv-loop table₀ words places cycles i degree cycle end at₀ table at = Lifting cycle (drop (i + 1) cycles) table at
+
+abbrev μ-loop : tie.MeasureT-loop
+μ-loop table₀ words places cycles i degree cycle end at₀ table at = end - at
+
+abbrev begin : (c : tie.In-loop Inv-loop μ-loop) → tie.Start Inv-loop μ-loop
+begin c = c .before .before .before .before .before .before .before .before
+
+struck : (c : tie.Start Inv-loop μ-loop) → Cut (c .args .cycles .now) (c .args .i) (c .args .degree)
+struck c = cut _ _ _ (c .pre .1 .0 .0) (c .pre .1 .0 .1) (c .pre .1 .1 .0)
+
+more : (c : tie.In-loop Inv-loop μ-loop) → let a = begin c .args in
+    c .before .loop .at < start (suc (degree (getD (a .cycles .now) (a .i) 0 ∷ drop (a .i + 1) (a .cycles .now))))
+more c = omega (arith, struck (begin c) .ends, c .before .before .before .start .ensures)
+
+turn : (c : tie.In-loop Inv-loop μ-loop) → let a = begin c .args in
+    Turn (a .words .now) (c .before .loop .at) (getD (a .cycles .now) (a .i) 0)
+turn c = lift-turn _ _ (struck (begin c) .all) _ _ (c .before .loop .inv) (more c) _ (begin c .pre .0 .0)
+
+shared-slice-read-cycle : tie.Need-shared-slice-read-cycle Inv-loop μ-loop
+shared-slice-read-cycle c = search needs
+
+cast-cycle : tie.Need-cast-cycle Inv-loop μ-loop
+cast-cycle c =
+    let begin = c .before .before .before .before in
+    omega (arith, struck begin .all .small)
+
+add-start : tie.Need-add-start Inv-loop μ-loop
+add-start c = search needs
+
+start-requires : tie.Need-start-requires Inv-loop μ-loop
+start-requires c κs = search needs
+
+cast-end : tie.Need-cast-end Inv-loop μ-loop
+cast-end c = search needs
+
+start-requires-2 : tie.Need-start-requires-2 Inv-loop μ-loop
+start-requires-2 c κs = search needs
+
+cast-at : tie.Need-cast-at Inv-loop μ-loop
+cast-at c = search needs
+
+loop-holds : tie.Need-loop-holds Inv-loop μ-loop
+loop-holds c =
+    let begin = c .before .before .before .before .before .before in
+    rw (c .start2 .ensures ∙ struck begin .starts) (lift-start _ _ _ (begin .pre .1 .1 .1))
+
+mul-word : tie.Need-mul-word Inv-loop μ-loop
+mul-word c = search needs
+
+shared-slice-read-word : tie.Need-shared-slice-read-word Inv-loop μ-loop
+shared-slice-read-word c = turn (c .before) .inside
+
+hook-sum-requires : tie.Need-hook-sum-requires Inv-loop μ-loop
+hook-sum-requires c κs =
+    let in-loop = c .before .before in
+    let t = turn in-loop in
+    (in-loop .before .loop .inv .kept .form, begin in-loop .pre .0 .1, t .good, t .long, t .short)
+
+place-requires : tie.Need-place-requires Inv-loop μ-loop
+place-requires c κs = (begin (c .before .before .before) .pre .0 .1, turn (c .before .before .before) .good)
+
+mul-number : tie.Need-mul-number Inv-loop μ-loop
+mul-number c = search needs
+
+slice-set-from-number : tie.Need-slice-set-from-number Inv-loop μ-loop
+slice-set-from-number c = search needs
+
+add-at : tie.Need-add-at Inv-loop μ-loop
+add-at c = search needs
+
+loop-less : tie.Need-loop-less Inv-loop μ-loop
+loop-less c = search needs
+
+loop-again : tie.Need-loop-again Inv-loop μ-loop
+loop-again c =
+    let in-loop = c .before .before .before .before in
+    let start = begin in-loop in
+    rw (c .place .ensures .0, c .before .hook-sum .ensures, start .pre .0 .0)
+    (lift-next _ _ (struck start .all) _ _ (in-loop .before .loop .inv) (more in-loop))
+
+same-length : tie.Need-same-length Inv-loop μ-loop
+same-length c = search needs
+
+returns : tie.Need-returns Inv-loop μ-loop
+returns c =
+    let begin = c .before .before .before .before .before .before .before .before in
+    let s = struck begin in
+    let past = c .before .before .before .start .ensures in
+    rw (s .whole) (lift-end _ _ _ _ (omega (arith, s .ends, c .loop-test .left)) (c .before .loop .inv))
+
+pub lift-spec : {M : Type 1} → statement M
+lift-spec =
+    tie.close
+    (tie.spec
+    Inv-loop
+    μ-loop
+    shared-slice-read-cycle
+    cast-cycle
+    add-start
+    start-requires
+    cast-end
+    start-requires-2
+    cast-at
+    loop-holds
+    mul-word
+    shared-slice-read-word
+    hook-sum-requires
+    place-requires
+    mul-number
+    slice-set-from-number
+    add-at
+    loop-less
+    loop-again
+    same-length
+    returns)

@@ -1,0 +1,118 @@
+-- `characters::columns::put` meets its contract.
+use mathlib.Core.Path.{_≡_, sym, _∙_, ap, ap₂}
+use Prim.Native.Nat.{ℕ, _-_, _<_}
+use native.Mathlib.Omega.{arith}
+use lib.ListN.{drop-of-length-le}
+use mir.Facts.{toZ-ofZ}
+use mir.Syntax.{w64}
+use borrow.Author.Needs.{needs, sfits-of}
+use Rattle.theory.specs.Basics.{drop}
+use Rattle.words.proofs.Columns.{Putting, put-start, put-next, put-all}
+use Rattle.characters.specs.Columns.{entry, entries}
+use Rattle.characters.proofs.KeptTables.{entries-length, entries-next, Next, next}
+use Rattle.characters.proofs.columns.put.Statement.{statement}
+use Rattle.characters.proofs.columns.put.Tie as tie
+use Rattle.characters.proofs.columns.put.Reads as reads
+use Rattle.characters.proofs.columns.put.Lts as lts
+use Rattle.characters.proofs.columns.look.Reads as look-reads
+use Rattle.characters.proofs.lookup.count.Reads as count-reads
+use Rattle.characters.proofs.lookup.start.Reads as start-reads
+
+abbrev Inv-loop : tie.InvT-loop
+Inv-loop table words places degree values₀ start count i₀ values i =
+    Putting (entries table degree) values₀ values i (drop i (entries table degree))
+
+abbrev μ-loop : tie.MeasureT-loop
+μ-loop table words places degree values₀ start count i₀ values i = count - i
+
+step : (c : tie.In-loop Inv-loop μ-loop)
+    → let a = c .before .before .before .before .before .before .args in
+    Next (a .words .now) (a .degree) (c .before .before .before .start .result) (c .before .loop .i)
+step c =
+    let begin = c .before .before .before .before .before .before in
+    next _ _ _ _ (begin .pre .0 .0) (begin .pre .1 .0) (c .before .before .before .start .ensures)
+    (omega (arith, c .before .before .count .ensures))
+
+start-requires : tie.Need-start-requires Inv-loop μ-loop
+start-requires c κs = search needs
+
+cast-start : tie.Need-cast-start Inv-loop μ-loop
+cast-start c = search needs
+
+count-requires : tie.Need-count-requires Inv-loop μ-loop
+count-requires c κs = search needs
+
+cast-count : tie.Need-cast-count Inv-loop μ-loop
+cast-count c = search needs
+
+loop-holds : tie.Need-loop-holds Inv-loop μ-loop
+loop-holds c =
+    let begin = c .before .before .before .before in
+    put-start _ _ (omega (arith, entries-length (begin .args .table .now) (begin .args .degree), begin .pre .1 .1))
+
+add-look : tie.Need-add-look Inv-loop μ-loop
+add-look c = omega (arith, step c .few)
+
+mul-look : tie.Need-mul-look Inv-loop μ-loop
+mul-look c = omega (arith, step c .few)
+
+shared-slice-read-look : tie.Need-shared-slice-read-look Inv-loop μ-loop
+shared-slice-read-look c = step (c .before) .inside
+
+look-requires : tie.Need-look-requires Inv-loop μ-loop
+look-requires c κs =
+    let pre = c .before .before .before .before .before .before .before .pre .0 in
+    (pre .2, pre .1, step (c .before) .good)
+
+mul-number : tie.Need-mul-number Inv-loop μ-loop
+mul-number c = search needs
+
+slice-set-from-number : tie.Need-slice-set-from-number Inv-loop μ-loop
+slice-set-from-number c = search needs
+
+add-i : tie.Need-add-i Inv-loop μ-loop
+add-i c = search needs
+
+loop-less : tie.Need-loop-less Inv-loop μ-loop
+loop-less c = search needs
+
+loop-again : tie.Need-loop-again Inv-loop μ-loop
+loop-again c =
+    let begin = c .before .before .before .before .before .before .before .before in
+    let s = step (c .before .before) in
+    let number =
+    toZ-ofZ {w = w64} (sfits-of (c .look .ok)) ∙ c .look .ensures ∙ ap (entry (begin .args .table .now)) (s .word-is) in
+    put-next _ _ (c .before .before .before .loop .inv) (rw number (entries-next _ _ _ (s .listed) (begin .pre .1 .0)))
+
+same-length : tie.Need-same-length Inv-loop μ-loop
+same-length c = search needs
+
+returns : tie.Need-returns Inv-loop μ-loop
+returns c =
+    let begin = c .before .before .before .before .before .before in
+    let long = entries-length (begin .args .table .now) (begin .args .degree) in
+    let past = c .before .before .count .ensures in
+    put-all _ _ (omega (arith, begin .pre .1 .1)) (c .before .loop .inv) (drop-of-length-le _ {i = c .before .loop .i} (omega arith))
+
+pub put-spec : {M : Type 1} → statement M
+put-spec =
+    tie.close
+    (tie.spec
+    Inv-loop
+    μ-loop
+    start-requires
+    cast-start
+    count-requires
+    cast-count
+    loop-holds
+    add-look
+    mul-look
+    shared-slice-read-look
+    look-requires
+    mul-number
+    slice-set-from-number
+    add-i
+    loop-less
+    loop-again
+    same-length
+    returns)

@@ -1,0 +1,115 @@
+// The column of a class (document 01, "Listing"). The cycles are taken from the last, which is the smallest. A table
+// keeps the character of every shape on the cycles taken so far, at the place of its word; the next cycle makes from
+// those of one degree those of a higher one, by the hooks of its length.
+ghost use mathlib.Core.Path.{_≡_};
+ghost use mathlib.Core.List.{[]};
+ghost use Prim.Native.Nat.{_+_, _≤_, _<_, _^_};
+ghost use Rattle.theory.specs.Basics.{length, drop};
+ghost use Rattle.theory.specs.Partition.{degree as degreeOf};
+ghost use Rattle.theory.specs.Listing.{listing, column};
+ghost use Rattle.theory.specs.Refusals.{degreeLimit};
+ghost use Rattle.characters.specs.Places.{places as placeTable};
+ghost use Rattle.characters.specs.Tables.{shapeWords, placeCount};
+ghost use Rattle.characters.specs.Evaluation.{hookSum};
+ghost use Rattle.characters.specs.Columns.{entry, entries, atFront, Table, Cycles, Kept};
+use super::evaluation;
+use super::hooks;
+use super::lookup;
+
+// What a table has for a shape word.
+fn look(table: &[i64], places: &[u16], word: u32) -> i64
+    requires { ⌜ (length (now table) ≡ placeCount) × (now places ≡ placeTable) × (word < 2 ^ 30) ⌝ }
+    ensures { λ r. ⌜ r ≡ entry (now (table .entry)) word ⌝ }
+{
+    let at = lookup::place(places, word);
+    table[at]
+}
+
+// The signed sum over the hooks of a length of what a table has for the words that they leave.
+fn hook_sum(table: &[i64], places: &[u16], shape: u32, length: u32) -> i64
+    requires { ⌜ Table (now table) × (now places ≡ placeTable) × (shape < 2 ^ 30) × (0 < length) × (length < 32) ⌝ }
+    ensures { λ r. ⌜ r ≡ hookSum (entry (now (table .entry))) length shape ⌝ }
+{
+    let mut left = hooks::marks(shape, length);
+    let mut sum = 0i64;
+    while left != 0 {
+        let place = 31 - u32::leading_zeros(left);
+        let number = look(table, places, hooks::leaves(shape, length, place));
+        sum = evaluation::added(sum, hooks::minus(shape, length, place), number);
+        left -= 1u32 << place;
+    }
+    sum
+}
+
+// From the table of the cycles after the i-th, that of the cycles from the i-th on, which have this degree.
+fn lift(table: &mut [i64], words: &[u32], places: &[u16], cycles: &[u8], i: usize, degree: u32)
+    requires { ⌜ (now words ≡ shapeWords) × (now places ≡ placeTable) ⌝ }
+    requires { ⌜ (i < length (now cycles)) × (degree ≡ degreeOf (drop i (now cycles))) ⌝ }
+    requires { ⌜ Cycles (drop i (now cycles)) × Kept (now table) (drop (i + 1) (now cycles)) ⌝ }
+    ensures { λ _. ⌜ Kept (now (table .exit)) (drop i (now (cycles .entry))) ⌝ }
+{
+    let cycle = cycles[i] as u32;
+    let end = lookup::start(degree + 1) as usize;
+    let mut at = lookup::start(degree) as usize;
+    while at < end {
+        let word = words[at];
+        let number = hook_sum(table, places, word, cycle);
+        let place = lookup::place(places, word);
+        table[place] = number;
+        at += 1;
+    }
+}
+
+// From the table of no cycles that of all of them.
+fn fill(table: &mut [i64], words: &[u32], places: &[u16], cycles: &[u8])
+    requires { ⌜ (now words ≡ shapeWords) × (now places ≡ placeTable) × Cycles (now cycles) × Kept (now table) [] ⌝ }
+    ensures { λ _. ⌜ Kept (now (table .exit)) (now (cycles .entry)) ⌝ }
+{
+    let mut i = cycles.len();
+    let mut degree = 0u32;
+    while 0 < i {
+        i -= 1;
+        degree += cycles[i] as u32;
+        lift(table, words, places, cycles, i, degree);
+    }
+}
+
+// What a table has for the shapes of a degree, in listing order, to the front of a column that has room.
+fn put(table: &[i64], words: &[u32], places: &[u16], degree: u32, values: &mut [i64])
+    requires { ⌜ (now words ≡ shapeWords) × (now places ≡ placeTable) × (length (now table) ≡ placeCount) ⌝ }
+    requires { ⌜ (degree ≤ degreeLimit) × (length (listing degree) ≤ length (now values)) ⌝ }
+    ensures { λ _. ⌜ now (values .exit) ≡ atFront (entries (now (table .entry)) degree) (now (values .entry)) ⌝ }
+{
+    let start = lookup::start(degree) as usize;
+    let count = lookup::count(degree) as usize;
+    let mut i = 0;
+    while i < count {
+        let number = look(table, places, words[start + i]);
+        values[i] = number;
+        i += 1;
+    }
+}
+
+// The table of no cycles: the empty shape has 1.
+fn empty(places: &[u16]) -> [i64; 1120]
+    requires { ⌜ now places ≡ placeTable ⌝ }
+    ensures { λ r. ⌜ Kept r [] ⌝ }
+{
+    let mut table = [0i64; 1120];
+    let at = lookup::place(places, 0);
+    table[at] = 1;
+    table
+}
+
+// The column of a class of this degree to the front of `values`, which has room.
+pub fn write(cycles: &[u8], degree: u32, values: &mut [i64])
+    requires { ⌜ Cycles (now cycles) × (degree ≡ degreeOf (now cycles)) ⌝ }
+    requires { ⌜ length (listing degree) ≤ length (now values) ⌝ }
+    ensures { λ _. ⌜ now (values .exit) ≡ atFront (column (now (cycles .entry))) (now (values .entry)) ⌝ }
+{
+    let words = lookup::words();
+    let places = lookup::places();
+    let mut table = empty(&places);
+    fill(&mut table, &words, &places, cycles);
+    put(&table, &words, &places, degree, values);
+}

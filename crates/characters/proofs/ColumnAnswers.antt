@@ -23,19 +23,22 @@ use Rattle.characters.proofs.Judging.{refused-is}
 use Rattle.characters.proofs.Ranks.{blank, class-refusal, parts-of-class}
 use Rattle.characters.proofs.Signed.{carried, carried-is}
 
-module _ (w : ℕ) (values : List ℤ) (a : NumberAnswer) (e : a ≡ classDegree degreeLimit w) where
+module _ (w : ℕ) (a : NumberAnswer) (e : a ≡ classDegree degreeLimit w) where
   abbrev rows : List Row
   rows = classRows degreeLimit w
 
-  abbrev Answered : CountAnswer → List ℤ → Type 0
-  Answered r after = Outcome (columnInto degreeLimit w values) r after
+  abbrev Answered : List ℤ → CountAnswer → List ℤ → Type 0
+  Answered values r after = Outcome (columnInto degreeLimit w values) r after
 
-  pub refused-class : (a .refused ≡ 0 → ⊥) → Answered (countAnswer (a .refused) 0) values
+  pub refused-class : (values : List ℤ) → (a .refused ≡ 0 → ⊥) → Answered values (countAnswer (a .refused) 0) values
   unfolding columnInto classDegree
-  refused-class = column-refused rows (column (classOf w)) values (a .refused) (refused-is rows _ a e)
+  refused-class values = column-refused rows (column (classOf w)) values (a .refused) (refused-is rows _ a e)
 
   module _ (z : a .refused ≡ 0) where
-    given : (firstOf rows ≡ 0) × (a ≡ numberAnswer 0 (pos (degree (classOf w))))
+    abbrev n : ℕ
+    n = degree (classOf w)
+
+    given : (firstOf rows ≡ 0) × (a ≡ numberAnswer 0 (pos n))
     unfolding classDegree
     given = number-given-by rows _ a e z
 
@@ -45,22 +48,22 @@ module _ (w : ℕ) (values : List ℤ) (a : NumberAnswer) (e : a ≡ classDegree
       small = within-class degreeLimit w (given .0) .small;
     }
 
-    pub degree-read : carried (a .number) ≡ pos (degree (classOf w))
-    degree-read = rw (given .1) (carried-is (pos (degree (classOf w))) (omega (arith, good-cycles .small)))
+    pub degree-read : carried (a .number) ≡ pos n
+    degree-read = rw (given .1) (carried-is (pos n) (omega (arith, good-cycles .small)))
 
     pub parts-read : (k : CountAnswer) (parts : List ℕ) → Outcome (classPartsInto degreeLimit w blank) k parts
         → FrontGiven (classOf w) k parts
     parts-read k parts o = parts-of-class w k parts o (class-refusal w k parts o ∙ given .0)
 
-    pub short-column : length values < length (listing (degree (classOf w))) → Answered (countAnswer 14 0) values
-    unfolding columnInto
-    short-column l =
-        column-short rows (column (classOf w)) values refl (given .0) (rw (column-length (classOf w)) l)
+    module _ (values : List ℤ) where
+      pub short-column : length values < length (listing n) → Answered values (countAnswer 14 0) values
+      unfolding columnInto
+      short-column l =
+          column-short rows (column (classOf w)) values refl (given .0) (rw (column-length (classOf w)) l)
 
-    pub filled-column : length (listing (degree (classOf w))) ≤ length values → (n : ℕ) (after : List ℤ)
-        → n ≡ length (listing (degree (classOf w))) → after ≡ atFront (column (classOf w)) values
-        → Answered (countAnswer 0 n) after
-    unfolding columnInto
-    filled-column l n after en ea =
-        let long = column-length (classOf w) in
-        column-filled rows (column (classOf w)) values refl (given .0) n after (rw long l) (en ∙ sym long) ea
+      pub filled-column : length (listing n) ≤ length values → (k : ℕ) (after : List ℤ) → k ≡ length (listing n)
+          → after ≡ atFront (column (classOf w)) values → Answered values (countAnswer 0 k) after
+      unfolding columnInto
+      filled-column l k after ek ea =
+          let long = column-length (classOf w) in
+          column-filled rows (column (classOf w)) values refl (given .0) k after (rw long l) (ek ∙ sym long) ea

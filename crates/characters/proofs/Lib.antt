@@ -3,7 +3,8 @@ pub mod Signed
 pub mod HookSums
 pub mod Walks
 pub mod Places
-pub mod KeptTables
+pub mod Lifts
+pub mod Entries
 pub mod ColumnAnswers
 pub mod Ranks
 pub mod Unique

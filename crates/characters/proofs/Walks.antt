@@ -45,8 +45,8 @@ others : {p : ℕ} {ps : Parts} → NoZero (p ∷ ps) → NoZero ps
 others (some n) = n
 
 module _ (s h : ℕ) (cs : Parts) (fit : Fit s (h ∷ cs)) where
-  pub long : 1 ≤ h
-  long = positive (fit .no-zero)
+  pub cycle-long : 1 ≤ h
+  cycle-long = positive (fit .no-zero)
 
   module _ (hook : Hook ℕ) (l : Left h s hook) where
     pub fit-left : Fit (hook .leaves) cs
@@ -58,11 +58,11 @@ module _ (s h : ℕ) (cs : Parts) (fit : Fit s (h ∷ cs)) where
     }
 
     pub degree-falls : degree (shapeOf (hook .leaves)) < degree (shapeOf s)
-    degree-falls = omega (arith, long)
+    degree-falls = omega (arith, cycle-long)
 
   pub walk : Walk (λ t. shapeOf t on cs) s h
   walk = record {
-    long = long;
+    long = cycle-long;
     below = omega (arith, fit .good);
     bounded = λ hook l. character-bounded (hook .leaves) cs (fit-left hook l);
   }

@@ -1,10 +1,10 @@
--- What the private functions of columns are asked, and what they keep: a table of the values of one class for all shapes
--- of its degree, each at the place of its word (document 01, "Listing", "A column writes the values of one class").
---   entry table w     what the table has at the place of the shape word w
---   entries table n   what it has for the shapes of degree n, in listing order
---   atFront xs run    xs at the front of a lent run, the rest of it stays
---   Table table       as many entries as there are places, and none above 16! in size
---   Cycles cycles     the cycles of a class within the limit
+-- What the private functions of columns are asked, and what they keep: a table of the values of one class for all
+-- shapes of its degree, each at the place of its word (document 01, "A column writes the values of one class").
+--   entry table w       what the table has at the place of the shape word w
+--   entries table n     what it has for the shapes of degree n, in listing order
+--   atFront xs run      xs at the front of a lent run, the rest of it stays
+--   Table table         as many entries as there are places, and none above 16! in size
+--   Cycles cycles       the cycles of a class within the limit
 --   Kept table cycles   a table that has, for each shape of their degree, its character on these cycles
 use mathlib.Core.Path.{_≡_}
 use Prim.Native.Nat.{_≤_}

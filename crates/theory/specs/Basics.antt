@@ -16,6 +16,7 @@ use lib.Dec.{eqb, ltb, leb}
 pub mod Laws
 pub mod Places
 pub mod Keep
+pub mod Joined
 
 infix 40 _=?_ _<?_ _≤?_
 abbrev pub _=?_ : ℕ → ℕ → Bool

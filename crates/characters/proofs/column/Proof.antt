@@ -1,32 +1,29 @@
+-- `characters::column` meets its contract: the class is judged by its degree and the room by the count of partitions, and
+-- the parts of the class word are the cycles whose column is written.
 use mathlib.Core.Path.{_≡_, refl, sym}
 use native.Mathlib.Omega.{arith}
 use lib.Seq.{length-take-le}
 use borrow.Author.Needs.{needs}
-use Rattle.theory.specs.Basics.{[], ℕ, pos, length}
+use Rattle.theory.specs.Basics.{ℕ, pos, length}
 use Rattle.theory.specs.Partition.{degree}
 use Rattle.theory.specs.ClassWord.{classOf}
 use Rattle.theory.specs.Listing.{listing}
 use Rattle.words.proofs.Callers.{FrontGiven}
 use Rattle.characters.specs.Columns.{Cycles}
 use Rattle.characters.proofs.Signed.{carried}
-use Rattle.characters.proofs.ColumnAnswers.{refused-class, good-cycles, degree-read, parts-read, short-column, filled-column}
+use Rattle.characters.proofs.ColumnAnswers.{refused-class, good-cycles, degree-read, parts-read}
+use Rattle.characters.proofs.ColumnAnswers.{short-column, filled-column}
 use Rattle.characters.proofs.column.Statement.{statement}
 use Rattle.characters.proofs.column.Tie as tie
-use Rattle.characters.proofs.column.Reads as reads
-use Rattle.characters.proofs.column.Lts as lts
-use Rattle.characters.proofs.columns.write.Reads as write-reads
-use Rattle.characters.proofs.lookup.count.Reads as count-reads
-use Rattle.words.proofs.classes.degree.Reads as degree-reads
-use Rattle.words.proofs.classes.parts.Reads as parts-reads
 
 abbrev class : tie.Else1 → ℕ
 class c = c .before .before .before .args .class
 
 cycles : (c : tie.Else1) → Cycles (classOf (class c))
-cycles c = good-cycles _ [] _ (c .before .before .degree .ensures) (c .if1 .left)
+cycles c = good-cycles _ _ (c .before .before .degree .ensures) (c .if1 .left)
 
 read : (c : tie.Else1) → carried (c .before .before .degree .result .number) ≡ pos (degree (classOf (class c)))
-read c = degree-read _ [] _ (c .before .before .degree .ensures) (c .if1 .left)
+read c = degree-read _ _ (c .before .before .degree .ensures) (c .if1 .left)
 
 abbrev accepted : tie.After-count → tie.Else1
 accepted c = c .before .before .before
@@ -41,7 +38,7 @@ front : (c : tie.After-parts2)
     → FrontGiven (classOf (class (accepted (judged c)))) (c .parts2 .result) (c .parts2 .last .1 .0)
 front c =
     let else1 = accepted (judged c) in
-    parts-read _ [] _ (else1 .before .before .degree .ensures) (else1 .if1 .left) _ _ (c .parts2 .ensures)
+    parts-read _ _ (else1 .before .before .degree .ensures) (else1 .if1 .left) _ _ (c .parts2 .ensures)
 
 degree-requires : tie.Need-degree-requires
 degree-requires c κs = search needs
@@ -49,7 +46,7 @@ degree-requires c κs = search needs
 returns : tie.Need-returns
 returns c =
     let asked = c .before .before in
-    refused-class _ _ _ (asked .degree .ensures) (c .if1 .taken)
+    refused-class _ _ (asked .degree .ensures) _ (c .if1 .taken)
 
 cast-degree : tie.Need-cast-degree
 cast-degree c =
@@ -67,7 +64,7 @@ cast-count c = search needs
 returns-2 : tie.Need-returns-2
 returns-2 c =
     let else1 = accepted (c .before) in
-    short-column _ _ _ (else1 .before .before .degree .ensures) (else1 .if1 .left)
+    short-column _ _ (else1 .before .before .degree .ensures) (else1 .if1 .left) _
     (omega (arith, counted (c .before), c .if2 .taken))
 
 slice-aggregate-parts : tie.Need-slice-aggregate-parts
@@ -99,7 +96,7 @@ returns-3 c =
     let count = judged given in
     let else1 = accepted count in
     let written = rw (front given .front) at (c .before .write .ensures) in
-    filled-column _ _ _ (else1 .before .before .degree .ensures) (else1 .if1 .left)
+    filled-column _ _ (else1 .before .before .degree .ensures) (else1 .if1 .left) _
     (omega (arith, counted count, given .before .before .if2 .left)) _ _ (counted count) written
 
 pub column-spec : {M : Type 1} → statement M

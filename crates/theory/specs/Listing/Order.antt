@@ -100,9 +100,12 @@ pub in-order : (n i j : ℕ) → i < j → j < length (listing n) → Before (ge
 unfolding listing
 in-order n i j h l = falling-at (most n n) i j (falling (built n n)) h l
 
-pub fits-at : (n i : ℕ) → i < length (listing n) → Fits n n (getD (listing n) i [])
+pub each-listed : (n : ℕ) → Each (Fits n n) (listing n)
 unfolding listing
-fits-at n i h = each-at (Fits n n) (most n n) [] i (each-fits (built n n)) h
+each-listed n = each-fits (built n n)
+
+pub fits-at : (n i : ℕ) → i < length (listing n) → Fits n n (getD (listing n) i [])
+fits-at n i h = each-at (Fits n n) (listing n) [] i (each-listed n) h
 
 pub class-words-rise : (W n i j : ℕ) → n ≤ W → i < j → j < length (listing n)
     → word W (classDigits (getD (listing n) i [])) < word W (classDigits (getD (listing n) j []))

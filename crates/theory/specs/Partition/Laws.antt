@@ -9,7 +9,8 @@ use native.Mathlib.Decide.{ℕ-discrete}
 use native.Mathlib.Omega.{arith}
 use lib.Dec.{eqb·suc-zero}
 use borrow.Author.Tests.{leb-true, ltb-true, le-leb, lt-leb, lt-ltb, eq-eqb, ne-eqb}
-use Rattle.theory.specs.Basics.{Bool, true, false, _&&_, [], _∷_, _++_, ℕ, zero, suc, _+_, length, drop, _<?_, _≤?_}
+use Rattle.theory.specs.Basics.{Bool, true, false, _&&_, [], _∷_, _++_, ℕ, zero, suc, _+_, length, drop}
+use Rattle.theory.specs.Basics.{_<?_, _≤?_}
 use Rattle.theory.specs.Basics.Laws.{both}
 use Rattle.theory.specs.Partition.{Parts, first, isPartition, degree, times, without}
 

@@ -1,8 +1,8 @@
--- `characters::columns::empty` meets its contract.
+-- `characters::columns::empty` meets its contract: the empty shape alone has no row, and it has 1.
 use mathlib.Core.Path.{refl}
 use borrow.Author.Needs.{needs}
 use Rattle.characters.specs.Tables.{placeCount}
-use Rattle.characters.proofs.KeptTables.{kept-empty}
+use Rattle.characters.proofs.Lifts.{kept-empty}
 use Rattle.characters.proofs.columns.empty.Statement.{statement}
 use Rattle.characters.proofs.columns.empty.Tie as tie
 

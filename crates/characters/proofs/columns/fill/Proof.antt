@@ -1,14 +1,12 @@
+-- `characters::columns::fill` meets its contract: the table is one of the cycles from the i-th on, and i falls.
 use mathlib.Core.Path.{_≡_}
-use Prim.Native.Nat.{ℕ, _+_, _-_, _<_}
+use Prim.Native.Nat.{_+_, _-_}
 use native.Mathlib.Omega.{arith}
 use borrow.Author.Needs.{needs}
 use Rattle.theory.specs.Basics.{getD}
-use Rattle.characters.proofs.KeptTables.{Filling, fill-start, Earlier, fill-next}
+use Rattle.characters.proofs.Lifts.{Filling, fill-start, Earlier, fill-next}
 use Rattle.characters.proofs.columns.fill.Statement.{statement}
 use Rattle.characters.proofs.columns.fill.Tie as tie
-use Rattle.characters.proofs.columns.fill.Reads as reads
-use Rattle.characters.proofs.columns.fill.Lts as lts
-use Rattle.characters.proofs.columns.lift.Reads as lift-reads
 
 abbrev Inv-loop : tie.InvT-loop
 Inv-loop table₀ words places cycles i₀ degree₀ table i degree = Filling cycles table i degree
@@ -20,7 +18,9 @@ step : (c : tie.In-loop Inv-loop μ-loop)
     → let cycles = c .before .before .before .before .before .args .cycles .now in
     let l = c .before .loop in
     Earlier cycles (l .table) (l .i - 1) (l .degree + getD cycles (l .i - 1) 0)
-step c = fill-next _ (c .before .before .before .before .before .pre .2) _ _ _ (c .before .loop .inv) (c .loop-test .taken)
+step c =
+    let all = c .before .before .before .before .before .pre .2 in
+    fill-next _ all _ _ _ (c .before .loop .inv) (omega (arith, c .loop-test .taken))
 
 loop-holds : tie.Need-loop-holds Inv-loop μ-loop
 loop-holds c = fill-start _ _ (c .before .before .before .pre .3)

@@ -1,6 +1,5 @@
 -- `characters::columns::hook_sum` meets its contract: the walk over the hooks, with the table's entries as the values.
-use mathlib.Core.Path.{sym, _∙_}
-use Prim.Native.Nat.{ℕ, _-_, _*_, _%_, _^_, _<_}
+use Prim.Native.Nat.{_-_, _*_, _%_, _^_}
 use native.Mathlib.Omega.{arith}
 use lib.Count.{leadingZeros}
 use mir.Syntax.{w64}
@@ -11,13 +10,6 @@ use Rattle.characters.specs.Tables.{placeOf}
 use Rattle.characters.proofs.HookSums.{Walk, Walked, Turn, walk-start, walk-turn, walk-end}
 use Rattle.characters.proofs.columns.hook_sum.Statement.{statement}
 use Rattle.characters.proofs.columns.hook_sum.Tie as tie
-use Rattle.characters.proofs.columns.hook_sum.Reads as reads
-use Rattle.characters.proofs.columns.hook_sum.Lts as lts
-use Rattle.characters.proofs.columns.look.Reads as look-reads
-use Rattle.characters.proofs.evaluation.added.Reads as added-reads
-use Rattle.characters.proofs.hooks.leaves.Reads as leaves-reads
-use Rattle.characters.proofs.hooks.marks.Reads as marks-reads
-use Rattle.characters.proofs.hooks.minus.Reads as minus-reads
 
 abbrev Inv-loop : tie.InvT-loop
 Inv-loop table places shape length left₀ sum₀ left sum = Walked (entry table) shape length left (toZ w64 sum)

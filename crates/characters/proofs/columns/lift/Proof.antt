@@ -1,18 +1,15 @@
+-- `characters::columns::lift` meets its contract: the words of the degree are done one after the other. Their hooks
+-- leave words of a lower degree, whose entries stay.
 use mathlib.Core.Path.{_∙_}
-use Prim.Native.Nat.{ℕ, suc, _+_, _-_, _<_}
+use Prim.Native.Nat.{suc, _+_, _-_, _<_}
 use native.Mathlib.Omega.{arith}
 use borrow.Author.Needs.{needs}
 use Rattle.theory.specs.Basics.{_∷_, drop, getD}
 use Rattle.theory.specs.Partition.{degree}
 use Rattle.theory.specs.Listing.Words.{start}
-use Rattle.characters.proofs.KeptTables.{Cut, cut, Lifting, Turn, lift-start, lift-turn, lift-next, lift-end}
+use Rattle.characters.proofs.Lifts.{Cut, cut, Lifting, Turn, lift-start, lift-turn, lift-next, lift-end}
 use Rattle.characters.proofs.columns.lift.Statement.{statement}
 use Rattle.characters.proofs.columns.lift.Tie as tie
-use Rattle.characters.proofs.columns.lift.Reads as reads
-use Rattle.characters.proofs.columns.lift.Lts as lts
-use Rattle.characters.proofs.columns.hook_sum.Reads as hook-sum-reads
-use Rattle.characters.proofs.lookup.place.Reads as place-reads
-use Rattle.characters.proofs.lookup.start.Reads as start-reads
 
 abbrev Inv-loop : tie.InvT-loop
 Inv-loop table₀ words places cycles i degree cycle end at₀ table at = Lifting cycle (drop (i + 1) cycles) table at

@@ -1,6 +1,7 @@
--- `characters::columns::put` meets its contract.
-use mathlib.Core.Path.{_≡_, sym, _∙_, ap, ap₂}
-use Prim.Native.Nat.{ℕ, _-_, _<_}
+-- `characters::columns::put` meets its contract: what is left of the entries goes to the places from i on, and the next
+-- of them is what the table has for the next word.
+use mathlib.Core.Path.{_∙_}
+use Prim.Native.Nat.{_-_}
 use native.Mathlib.Omega.{arith}
 use lib.ListN.{drop-of-length-le}
 use mir.Facts.{toZ-ofZ}
@@ -8,15 +9,10 @@ use mir.Syntax.{w64}
 use borrow.Author.Needs.{needs, sfits-of}
 use Rattle.theory.specs.Basics.{drop}
 use Rattle.words.proofs.Columns.{Putting, put-start, put-next, put-all}
-use Rattle.characters.specs.Columns.{entry, entries}
-use Rattle.characters.proofs.KeptTables.{entries-length, entries-next, Next, next}
+use Rattle.characters.specs.Columns.{entries}
+use Rattle.characters.proofs.Entries.{entries-length, Next, next}
 use Rattle.characters.proofs.columns.put.Statement.{statement}
 use Rattle.characters.proofs.columns.put.Tie as tie
-use Rattle.characters.proofs.columns.put.Reads as reads
-use Rattle.characters.proofs.columns.put.Lts as lts
-use Rattle.characters.proofs.columns.look.Reads as look-reads
-use Rattle.characters.proofs.lookup.count.Reads as count-reads
-use Rattle.characters.proofs.lookup.start.Reads as start-reads
 
 abbrev Inv-loop : tie.InvT-loop
 Inv-loop table words places degree values₀ start count i₀ values i =
@@ -27,11 +23,11 @@ abbrev μ-loop : tie.MeasureT-loop
 
 step : (c : tie.In-loop Inv-loop μ-loop)
     → let a = c .before .before .before .before .before .before .args in
-    Next (a .words .now) (a .degree) (c .before .before .before .start .result) (c .before .loop .i)
+    Next (a .table .now) (a .words .now) (a .degree) (c .before .before .before .start .result) (c .before .loop .i)
 step c =
-    let begin = c .before .before .before .before .before .before in
-    next _ _ _ _ (begin .pre .0 .0) (begin .pre .1 .0) (c .before .before .before .start .ensures)
-    (omega (arith, c .before .before .count .ensures))
+    let pre = c .before .before .before .before .before .before .pre in
+    next _ _ _ (omega (arith, c .before .before .count .ensures)) _ _ (pre .0 .0)
+    (c .before .before .before .start .ensures) (pre .1 .0)
 
 start-requires : tie.Need-start-requires Inv-loop μ-loop
 start-requires c κs = search needs
@@ -51,10 +47,10 @@ loop-holds c =
     put-start _ _ (omega (arith, entries-length (begin .args .table .now) (begin .args .degree), begin .pre .1 .1))
 
 add-look : tie.Need-add-look Inv-loop μ-loop
-add-look c = omega (arith, step c .few)
+add-look c = omega (arith, step c .inside)
 
 mul-look : tie.Need-mul-look Inv-loop μ-loop
-mul-look c = omega (arith, step c .few)
+mul-look c = omega (arith, step c .inside)
 
 shared-slice-read-look : tie.Need-shared-slice-read-look Inv-loop μ-loop
 shared-slice-read-look c = step (c .before) .inside
@@ -78,11 +74,9 @@ loop-less c = search needs
 
 loop-again : tie.Need-loop-again Inv-loop μ-loop
 loop-again c =
-    let begin = c .before .before .before .before .before .before .before .before in
     let s = step (c .before .before) in
-    let number =
-    toZ-ofZ {w = w64} (sfits-of (c .look .ok)) ∙ c .look .ensures ∙ ap (entry (begin .args .table .now)) (s .word-is) in
-    put-next _ _ (c .before .before .before .loop .inv) (rw number (entries-next _ _ _ (s .listed) (begin .pre .1 .0)))
+    let number = toZ-ofZ {w = w64} (sfits-of (c .look .ok)) ∙ c .look .ensures in
+    put-next _ _ (c .before .before .before .loop .inv) (rw number (s .reads))
 
 same-length : tie.Need-same-length Inv-loop μ-loop
 same-length c = search needs
@@ -92,7 +86,8 @@ returns c =
     let begin = c .before .before .before .before .before .before in
     let long = entries-length (begin .args .table .now) (begin .args .degree) in
     let past = c .before .before .count .ensures in
-    put-all _ _ (omega (arith, begin .pre .1 .1)) (c .before .loop .inv) (drop-of-length-le _ {i = c .before .loop .i} (omega arith))
+    put-all _ _ (omega (arith, begin .pre .1 .1)) (c .before .loop .inv)
+    (drop-of-length-le _ {i = c .before .loop .i} (omega arith))
 
 pub put-spec : {M : Type 1} → statement M
 put-spec =

@@ -1,17 +1,11 @@
+-- `characters::columns::write` meets its contract: the table of all cycles has the column's values as its entries.
 use mathlib.Core.Path.{_∙_, ap}
 use borrow.Author.Needs.{needs}
 use Rattle.theory.specs.Basics.{List, ℤ}
 use Rattle.characters.specs.Columns.{entries, atFront}
-use Rattle.characters.proofs.KeptTables.{entries-column}
+use Rattle.characters.proofs.Entries.{entries-column}
 use Rattle.characters.proofs.columns.write.Statement.{statement}
 use Rattle.characters.proofs.columns.write.Tie as tie
-use Rattle.characters.proofs.columns.write.Reads as reads
-use Rattle.characters.proofs.columns.write.Lts as lts
-use Rattle.characters.proofs.columns.empty.Reads as empty-reads
-use Rattle.characters.proofs.columns.fill.Reads as fill-reads
-use Rattle.characters.proofs.columns.put.Reads as put-reads
-use Rattle.characters.proofs.lookup.places.Reads as places-reads
-use Rattle.characters.proofs.lookup.words.Reads as words-reads
 
 words-requires : tie.Need-words-requires
 words-requires c κs = search needs

@@ -1,6 +1,6 @@
--- Tables of characters: one cycle more changes a table entry by entry, and a column is read off it.
+-- Tables of characters: that of no cycle, and how one cycle more changes a table, entry by entry.
 --   Cut cycles i n            the i-th cycle and those after it, together of degree n
---   Lifting h cs table i      a table of the cycles cs that becomes one of h ∷ cs: its words before the index i are done
+--   Lifting h cs table i      a table of the cycles cs that becomes one of h ∷ cs: the words before index i are done
 --   Turn words i h            what its next turn goes by: a good word at the index i, and a cycle h of a good length
 --   Filling cycles table i n  a table of the cycles from the i-th on, which have the degree n
 --   Earlier cycles table i n  it has those after the i-th, and those from the i-th on have the degree n
@@ -10,36 +10,41 @@ use native.Mathlib.Nat.{le-refl}
 use native.Mathlib.Numerals.{add-one}
 use native.Mathlib.Decide.{ℕ-discrete}
 use native.Mathlib.Omega.{arith}
-use lib.ListN.{set, length-map, length-set, length-replicate}
-use lib.Seq.{getD-set-same, getD-set-other, drop-cons, drop-length, ext-getD}
+use lib.ListN.{set, length-set, length-replicate}
+use lib.Seq.{getD-set-same, getD-set-other, drop-length}
 use borrow.Author.Tests.{lt-ltb, ltb-true, eq-eqb, eqb-true}
-use Rattle.theory.specs.Basics.{List, [], _∷_, map, replicate, ℕ, zero, suc, _+_, _-_, _^_, ℤ, pos, natAbs, _=?_}
-use Rattle.theory.specs.Basics.{length, getD, drop}
+use Rattle.theory.specs.Basics.{List, [], _∷_, length, getD, drop, replicate, ℕ, zero, suc, _+_, _-_, _^_}
+use Rattle.theory.specs.Basics.{ℤ, pos, natAbs}
 use Rattle.theory.specs.Basics.Laws.{sum-same}
-use Rattle.theory.specs.Basics.Places.{map-at}
 use Rattle.theory.specs.Partition.{Parts, degree}
 use Rattle.theory.specs.Partition.Laws.{no-zero-drop, degree-drop}
-use Rattle.theory.specs.ShapeWord.{shapeWord, shapeOf}
-use Rattle.theory.specs.ShapeWord.Words.{word-back, small-fits}
+use Rattle.theory.specs.ShapeWord.{shapeOf}
 use Rattle.theory.specs.ShapeWord.Empty.{empty-word}
 use Rattle.theory.specs.Character.{_on_}
 use Rattle.theory.specs.Hooks.{hookWords, signed}
 use Rattle.theory.specs.Hooks.Words.{Left, hooks-leave}
 use Rattle.theory.specs.Bounds.{factorial}
-use Rattle.theory.specs.Listing.{listing, column}
-use Rattle.theory.specs.Listing.Columns.{column-length, column-at}
-use Rattle.theory.specs.Listing.Ranks.{at-rank}
-use Rattle.theory.specs.Listing.Words.{start, start-rises, index, word-at, word-ranked, ranked-at}
+use Rattle.theory.specs.Listing.Words.{Ranked, start, start-rises, index, ranked-at}
 use Rattle.theory.specs.Refusals.{degreeLimit}
 use Rattle.theory.specs.Refusals.Laws.{Within}
 use Rattle.words.proofs.PartLists.{next-left, degree-left}
 use Rattle.characters.specs.Evaluation.{Fit, hookSum}
 use Rattle.characters.specs.Tables.{shapeWords, placeOf, placeCount}
-use Rattle.characters.specs.Columns.{entry, entries, Table, Cycles, Kept}
-use Rattle.characters.proofs.Places.{place-below, places-apart, stands, index-below, shapeWords-length}
+use Rattle.characters.specs.Columns.{entry, Table, Cycles, Kept}
+use Rattle.characters.proofs.Places.{place-below, places-apart, stands}
 use Rattle.characters.proofs.Signed.{carried}
 use Rattle.characters.proofs.HookSums.{most}
-use Rattle.characters.proofs.Walks.{character-bounded, character-carried, long, fit-left, struck, value-none}
+use Rattle.characters.proofs.Walks.{character-bounded, character-carried}
+use Rattle.characters.proofs.Walks.{cycle-long, fit-left, struck, value-none}
+
+-- ---- fitting words
+pub ranked-fits : (cs : Parts) → Cycles cs → (i w : ℕ) → Ranked (degree cs) i w → Fit w cs
+ranked-fits cs cycles i w r = record {
+  good = ltb-true w (2 ^ 30) (r .good);
+  no-zero = cycles .no-zero;
+  degrees = r .of-degree;
+  small = cycles .small;
+}
 
 within-limit : (w : ℕ) (cs : Parts) → Fit w cs → Within degreeLimit w
 within-limit w cs f = record { good = lt-ltb w (2 ^ 30) (f .good); small = omega (arith, f .degrees, f .small) }
@@ -100,7 +105,7 @@ cut cycles i n inside e from =
       whole = whole;
       all = rw whole at from;
       starts = ap start of-degree;
-      ends = rw (add-one, of-degree);
+      ends = rw (add-one n, of-degree);
     }
 
 pub record Turn (words : List ℕ) (i h : ℕ) : Type 0 where
@@ -110,6 +115,7 @@ pub record Turn (words : List ℕ) (i h : ℕ) : Type 0 where
   pub short : h < 32
 
 module _ (h : ℕ) (cs : Parts) where
+  -- the degree that the table is lifted to
   abbrev n : ℕ
   n = degree (h ∷ cs)
 
@@ -140,13 +146,8 @@ module _ (h : ℕ) (cs : Parts) where
     here-fits : Fit here (h ∷ cs)
     here-fits =
         let small = cycles .small in
-        let r = ranked-at (suc degreeLimit) n i (omega arith) (omega arith) (l .from) more in
-        record {
-          good = ltb-true here (2 ^ 30) (r .good);
-          no-zero = cycles .no-zero;
-          degrees = r .of-degree;
-          small = small;
-        }
+        ranked-fits (h ∷ cs) cycles (i - start n) here
+        (ranked-at (suc degreeLimit) n i (omega arith) (omega arith) (l .from) more)
 
     pub lift-turn : (words : List ℕ) → words ≡ shapeWords → Turn words i h
     lift-turn words same =
@@ -156,7 +157,7 @@ module _ (h : ℕ) (cs : Parts) where
         (record {
           inside = omega (arith, start-rises (suc n) (suc degreeLimit) (omega arith));
           good = fit .good;
-          long = long here h cs fit;
+          long = cycle-long here h cs fit;
           short = omega arith;
         })
 
@@ -164,7 +165,8 @@ module _ (h : ℕ) (cs : Parts) where
     unfolding hookSum
     sum-is =
         sum-same (Left h here) _ _ (hookWords h here)
-        (λ hook left. ap (signed (hook .minus)) (l .kept .holds (hook .leaves) (fit-left here h cs here-fits hook left)))
+        (λ hook left.
+        ap (signed (hook .minus)) (l .kept .holds (hook .leaves) (fit-left here h cs here-fits hook left)))
         (hooks-leave h here)
         ∙ struck here h cs here-fits
 
@@ -182,10 +184,9 @@ module _ (h : ℕ) (cs : Parts) where
           kept = record {
             form = set-form table (placeOf here) x form room (character-bounded here (h ∷ cs) here-fits);
             holds = λ w f.
-                let other : placeOf w ≡ placeOf here → ⊥ =
-                λ (same : placeOf w ≡ placeOf here).
+                let other : placeOf w ≡ placeOf here → ⊥ = λ same.
                 let e = ap (λ (v : ℕ). degree (shapeOf v)) (places-apart w here (within-limit w cs f) own same) in
-                omega (arith, f .degrees, here-fits .degrees, long here h cs here-fits) in
+                omega (arith, f .degrees, here-fits .degrees, cycle-long here h cs here-fits) in
                 getD-set-other table (placeOf here) (placeOf w) x (pos 0) other ∙ l .kept .holds w f;
           };
           from = omega (arith, l .from);
@@ -195,8 +196,7 @@ module _ (h : ℕ) (cs : Parts) where
                 | yes same ↦
                     rw (places-apart w here its own same) (set-same table (placeOf here) x form room)
                 | no other ↦
-                    let earlier : index w ≡ i → ⊥ =
-                    λ (e : index w ≡ i).
+                    let earlier : index w ≡ i → ⊥ = λ e.
                     other (ap placeOf (sym (stands w its .at) ∙ ap (λ (j : ℕ). getD shapeWords j 0) e)) in
                     getD-set-other table (placeOf here) (placeOf w) x (pos 0) other ∙ l .done w f (omega arith)
               ];
@@ -236,63 +236,3 @@ module _ (cycles : Parts) where
         of-degree = omega (arith, rw next at (degree-left cycles (i - 1) inside), f .of-degree);
         kept = rw next (f .kept);
       }
-
--- ---- the column
-module _ (table : List ℤ) (n : ℕ) where
-  pub entries-length : length (entries table n) ≡ length (listing n)
-  unfolding entries
-  entries-length = length-map (listing n) _
-
-  module _ (i : ℕ) (inside : i < length (listing n)) where
-    entry-at : getD (entries table n) i (pos 0) ≡ entry table (shapeWord (getD (listing n) i []))
-    unfolding entries
-    entry-at = map-at (λ shape. entry table (shapeWord shape)) (listing n) [] (pos 0) i inside
-
-    pub entries-next : n ≤ degreeLimit → drop i (entries table n)
-        ≡ entry table (getD shapeWords (start n + i) 0) ∷ drop (i + 1) (entries table n)
-    entries-next small =
-        let within : i < length (entries table n) = omega (arith, entries-length) in
-        rw (add-one, word-at (suc degreeLimit) n i (omega arith) inside, ← entry-at) (drop-cons (entries table n) i (pos 0) within)
-
-pub entries-column : (table : List ℤ) (cs : Parts) → Cycles cs → Kept table cs → entries table (degree cs) ≡ column cs
-entries-column table cs cycles kept =
-    let n : ℕ = degree cs in
-    ext-getD (pos 0) (entries table n) (column cs) (entries-length table n ∙ sym (column-length cs))
-    (λ i l.
-    let inside : i < length (listing n) = omega (arith, entries-length table n) in
-    let small = cycles .small in
-    let shape : Parts = getD (listing n) i [] in
-    let r = at-rank n i inside in
-    let w = word-ranked n i (omega arith) inside in
-    let fit : Fit (shapeWord shape) cs = record {
-      good = ltb-true (shapeWord shape) (2 ^ 30) (w .good);
-      no-zero = cycles .no-zero;
-      degrees = w .of-degree;
-      small = small;
-    } in
-    entry-at table n i inside ∙ kept .holds (shapeWord shape) fit
-    ∙ ap (λ (ps : Parts). ps on cs) (word-back shape (small-fits shape (r .partition) (omega (arith, r .of-degree))))
-    ∙ sym (column-at cs i inside))
-
--- ---- the words of a degree, as they are read one after the other
---   Next words n from i   what is known of the word at from + i, if the degree n starts at `from`
-pub record Next (words : List ℕ) (n from i : ℕ) : Type 0 where
-  pub listed : i < length (listing n)
-  pub few : from + i < 915
-  pub inside : from + i < length words
-  pub word-is : getD words (from + i) 0 ≡ getD shapeWords (start n + i) 0
-  pub good : getD words (from + i) 0 < 2 ^ 30
-
-pub next : (words : List ℕ) (n from i : ℕ) → words ≡ shapeWords → n ≤ degreeLimit → from ≡ start n
-    → i < length (listing n) → Next words n from i
-next words n from i same small starts l =
-    let few = index-below n i small l in
-    let at = word-at (suc degreeLimit) n i (omega arith) l in
-    let is : getD words (from + i) 0 ≡ getD shapeWords (start n + i) 0 = rw (same, starts) refl in
-    record {
-      listed = l;
-      few = omega arith;
-      inside = omega (arith, ap length same, shapeWords-length);
-      word-is = is;
-      good = rw (is, at) (ltb-true _ (2 ^ 30) (word-ranked n i (omega arith) l .good));
-    }

@@ -1,0 +1,46 @@
+// A plain Rust twin of the library's column: the same algorithm over the same tables.
+#[allow(dead_code)]
+mod tables {
+    include!("../../crates/characters/src/tables.rt");
+}
+use tables::{PLACES, STARTS, WORDS};
+
+const ROOM: usize = 1120;
+
+fn place(word: u32) -> usize {
+    PLACES[(word >> 22) as usize] as usize + ((word >> 14) % 256) as usize
+}
+
+// The signed sum of what the table has for the words that the hooks of this length leave.
+fn hook_sum(table: &[i64], shape: u32, length: u32) -> i64 {
+    let mut left = (!shape & (shape << length)) % 0x8000_0000;
+    let mut sum = 0;
+    while left != 0 {
+        let at = 31 - left.leading_zeros();
+        let exchanged = shape + (1 << at) - (1 << (at - length));
+        let word = (exchanged << (!(exchanged << 1)).leading_zeros()) % 0x8000_0000;
+        let below = (shape >> (at - length)) % (1 << length);
+        let value = table[place(word)];
+        sum += if (length + below.count_ones()) % 2 == 1 { -value } else { value };
+        left -= 1 << at;
+    }
+    sum
+}
+
+// The values of a class for all shapes of its degree, in listing order; how many there are is the answer.
+pub fn column(parts: &[u8], values: &mut [i64]) -> usize {
+    let mut table = [0i64; ROOM];
+    table[place(0)] = 1;
+    let mut degree = 0usize;
+    for &part in parts.iter().rev() {
+        degree += part as usize;
+        for &shape in &WORDS[STARTS[degree] as usize..STARTS[degree + 1] as usize] {
+            table[place(shape)] = hook_sum(&table, shape, part as u32);
+        }
+    }
+    let shapes = &WORDS[STARTS[degree] as usize..STARTS[degree + 1] as usize];
+    for (value, &shape) in values.iter_mut().zip(shapes) {
+        *value = table[place(shape)];
+    }
+    shapes.len()
+}

@@ -1,0 +1,126 @@
+-- `tabletext::table::class` meets its contract: what the calculator answers of the class is what its lines have.
+use native.Mathlib.Omega.{arith}
+use mathlib.Core.Path.{_≡_, sym, _∙_, ap}
+use lib.Seq.{length-take-le}
+use mir.Facts.{toZ-ofZ}
+use mir.Syntax.{w64}
+use mir.Val.{toZ, ofZ}
+use borrow.Author.Needs.{needs, sfits-of}
+use Rattle.theory.specs.Basics.{[], ℕ, getD, take, pos, natAbs}
+use Rattle.theory.specs.Partition.{Parts}
+use Rattle.theory.specs.ClassWord.{classWord}
+use Rattle.theory.specs.ClassData.{classSize}
+use Rattle.theory.specs.Listing.{listing, column}
+use Rattle.words.proofs.Callers.{FrontGiven}
+use Rattle.tabletext.specs.Table.{Text, classText, classLines}
+use Rattle.tabletext.proofs.Classes.{word-of-rank, parts-of-rank, size-fits, size-of-rank, column-of-rank}
+use Rattle.tabletext.proofs.table.class.Statement.{statement}
+use Rattle.tabletext.proofs.table.class.Tie as tie
+
+abbrev class : tie.Start → Parts
+class c = getD (listing (c .args .degree)) (c .args .rank) []
+
+word : (c : tie.After-class-at) → c .class-at .result .word ≡ classWord (class (c .before .before))
+word c =
+    let s = c .before .before in
+    word-of-rank (s .args .degree) (s .args .rank) (s .pre .0) (s .pre .1 .0) _ (c .class-at .ensures)
+
+parts : (c : tie.After-parts2)
+    → FrontGiven (class (c .before .before .before .before)) (c .parts2 .result) (c .parts2 .last .1 .0)
+parts c =
+    let a = c .before .before in
+    let s = a .before .before in
+    parts-of-rank (s .args .degree) (s .args .rank) (s .pre .0) (s .pre .1 .0) _ (word a) _ _ (c .parts2 .ensures)
+
+size : (c : tie.After-size)
+    → toZ w64 (ofZ w64 (c .size .result .number))
+    ≡ pos (classSize (class (c .before .before .before .before .before .before)))
+size c =
+    let a = c .before .before .before .before in
+    let s = a .before .before in
+    size-of-rank (s .args .degree) (s .args .rank) (s .pre .0) (s .pre .1 .0) _ (word a) _ (c .size .ensures)
+
+values : (c : tie.After-column)
+    → FrontGiven (column (class (c .before .before .before .before .before .before .before .before))) (c .column .result)
+    (c .column .last .1 .0)
+values c =
+    let a = c .before .before .before .before .before .before in
+    let s = a .before .before in
+    column-of-rank (s .args .degree) (s .args .rank) (s .pre .0) (s .pre .1 .0) _ (word a) _ _ (c .column .ensures)
+
+-- what the lines are made of is the class's own
+text : (c : tie.After-column) → let s = c .before .before .before .before .before .before .before .before in
+    classText
+    (take (c .before .before .before .before .parts2 .result .count) (c .before .before .before .before .parts2 .last .1 .0))
+    (natAbs (toZ w64 (ofZ w64 (c .before .before .size .result .number))))
+    (take (c .column .result .count) (c .column .last .1 .0)) ≡ classLines (class s)
+unfolding classLines
+text c = rw (parts (c .before .before .before .before) .front, size (c .before .before), values c .front)
+
+class-at-requires : tie.Need-class-at-requires
+class-at-requires c κs = search needs
+
+slice-aggregate-parts : tie.Need-slice-aggregate-parts
+slice-aggregate-parts c = search needs
+
+parts-requires : tie.Need-parts-requires
+parts-requires c κs = search needs
+
+size-requires : tie.Need-size-requires
+size-requires c κs = search needs
+
+slice-aggregate-column : tie.Need-slice-aggregate-column
+slice-aggregate-column c = search needs
+
+column-requires : tie.Need-column-requires
+column-requires c κs = search needs
+
+array-share-prefix-parts : tie.Need-array-share-prefix-parts
+array-share-prefix-parts c = parts (c .before .before .before .before .before) .inside
+
+slice-aggregate-class : tie.Need-slice-aggregate-class
+slice-aggregate-class c = sym (length-take-le _ _ (parts (c .before .before .before .before .before .before) .inside))
+
+cast-class : tie.Need-cast-class
+cast-class c =
+    let s = c .before .before .before .before .before .before in
+    let a = s .before .before .before .before .before .before in
+    rw (size s) (tt, record { fits = omega (arith, size-fits (a .args .degree) (a .args .rank) (a .pre .0) (a .pre .1 .0)) })
+
+array-share-prefix-values : tie.Need-array-share-prefix-values
+array-share-prefix-values c = values (c .before .before .before .before) .inside
+
+slice-aggregate-class-2 : tie.Need-slice-aggregate-class-2
+slice-aggregate-class-2 c = sym (length-take-le _ _ (values (c .before .before .before .before .before) .inside))
+
+class-requires : tie.Need-class-requires
+class-requires c κs =
+    let v = c .before .before .before .before .before .before in
+    rw (text v) (v .before .before .before .before .before .before .before .before .pre .1 .1)
+
+same-length : tie.Need-same-length
+same-length c = search needs
+
+returns : tie.Need-returns
+returns c =
+    let k = c .before .before in
+    rw (← text (k .before .before .before .before .before .before .before)) (k .class .ensures)
+
+pub class-spec : {M : Type 1} → statement M
+class-spec =
+    tie.close
+    (tie.spec
+    class-at-requires
+    slice-aggregate-parts
+    parts-requires
+    size-requires
+    slice-aggregate-column
+    column-requires
+    array-share-prefix-parts
+    slice-aggregate-class
+    cast-class
+    array-share-prefix-values
+    slice-aggregate-class-2
+    class-requires
+    same-length
+    returns)

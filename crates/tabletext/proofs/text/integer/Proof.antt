@@ -1,0 +1,47 @@
+-- `tabletext::text::integer` meets its contract.
+use mathlib.Core.Path.{_≡_, _∙_, ap}
+use mir.Facts.{toZ-ofZ}
+use borrow.Author.Needs.{needs}
+use Rattle.theory.specs.Basics.{length, natAbs}
+use Rattle.tabletext.specs.Table.{decimal, minus, integer}
+use Rattle.tabletext.specs.Writing.{Wrote}
+use Rattle.tabletext.specs.Writing.Laws.{first-room, wrote-room, wrote-then}
+use Rattle.tabletext.proofs.text.integer.Statement.{statement}
+use Rattle.tabletext.proofs.text.integer.Tie as tie
+
+signed : (c : tie.After-minus) → let a = c .before .before .before .args in
+    Wrote (minus (a .z)) (a .at) (a .out .now) (c .minus .result) (c .minus .last .1 .0)
+signed c = rw (toZ-ofZ (c .before .before .before .fits .z)) at (c .minus .ensures)
+
+sized : (c : tie.After-size) → c .size .result ≡ natAbs (c .before .before .before .before .before .before .args .z)
+sized c = c .size .ensures ∙ ap natAbs (toZ-ofZ (c .before .before .before .before .before .before .fits .z))
+
+minus-requires : tie.Need-minus-requires
+unfolding integer
+minus-requires c κs =
+    let start = c .before .before in
+    let z = start .args .z in
+    rw (toZ-ofZ (start .fits .z)) (first-room (minus z) (decimal (natAbs z)) _ _ (start .pre))
+
+size-requires : tie.Need-size-requires
+size-requires c κs = search needs
+
+decimal-requires : tie.Need-decimal-requires
+unfolding integer
+decimal-requires c κs =
+    let m = c .before .before .before .before in
+    rw (sized (c .before)) (wrote-room (signed m) _ (m .before .before .before .pre))
+
+same-length : tie.Need-same-length
+same-length c = search needs
+
+returns : tie.Need-returns
+unfolding integer
+returns c =
+    let d = c .before .before in
+    let s = d .before .before in
+    wrote-then (signed (s .before .before .before)) (rw (sized s) at (d .decimal .ensures))
+
+pub integer-spec : {M : Type 1} → statement M
+integer-spec =
+    tie.close (tie.spec minus-requires size-requires decimal-requires same-length returns)

@@ -1,0 +1,4 @@
+-- What the table program writes.
+pub mod Table
+pub mod Writing
+pub mod Reading

@@ -1,0 +1,143 @@
+-- The program's text has room in 1,048,576 bytes: there are at most 231 classes and as many values to a class, and no
+-- value has more than 14 digits, since none exceeds 16! in size. Of the other numbers 20 digits are enough to know.
+--   room   how many bytes the program has
+use mathlib.Core.Path.{_≡_, refl, sym, _∙_, ap}
+use Prim.Native.Nat.{_≤_, _<_}
+use native.Mathlib.Omega.{arith}
+use lib.ListN.{length-append, length-map}
+use borrow.Author.Tests.{leb-true, ltb-true, ltb-false}
+use Rattle.theory.specs.Basics.{not, List, [], _∷_, _++_, map, ℕ, zero, suc, _+_, _*_, _^_, length, getD}
+use Rattle.theory.specs.Basics.{_=?_, _<?_, _≤?_, joined}
+use Rattle.theory.specs.Basics.Laws.{Each, each-same, each-map, each-member}
+use Rattle.theory.specs.Basics.Places.{every-at}
+use Rattle.theory.specs.Basics.Joined.{joined-length}
+use Rattle.theory.specs.Partition.{Parts, degree}
+use Rattle.theory.specs.Partition.Laws.{no-zero, length-degree}
+use Rattle.theory.specs.Character.{_on_}
+use Rattle.theory.specs.ClassData.{classSize}
+use Rattle.theory.specs.Bounds.{factorial}
+use Rattle.theory.specs.Bounds.Laws.{factorial-rises}
+use Rattle.theory.specs.Bounds.Characters.{character-bounded}
+use Rattle.theory.specs.Listing.{listing, partitionCounts, column}
+use Rattle.theory.specs.Listing.Laws.{count-kept}
+use Rattle.theory.specs.Listing.Order.{Fits, each-listed}
+use Rattle.theory.specs.Listing.Columns.{column-length}
+use Rattle.theory.specs.Refusals.{Row, degreeLimit, firstOf, judged, no-12, no-13}
+use Rattle.theory.specs.Refusals.Laws.{none-applies}
+use Rattle.tabletext.specs.Table.{Text, ascii, decimal, integer, commas, line, field, classText, classLines, table, asked}
+use Rattle.tabletext.specs.Table.{chartable}
+use Rattle.tabletext.specs.Table.Decimals.{decimal-most, integer-length}
+use Rattle.tabletext.specs.Table.Lists.{commas-length}
+
+abbrev pub room : ℕ
+room = 1048576
+
+-- ---- lines
+line-length : (name t : Text) → length (line name t) ≡ length name + length t + 1
+line-length name t = length-append (name ++ t) (10 ∷ []) ∙ rw length-append refl
+
+number-line : (name : Text) (n : ℕ) → length (line name (decimal n)) ≤ length name + 21
+number-line name n = omega (arith, line-length name (decimal n), decimal-most n)
+
+-- ---- a class
+module _ (n : ℕ) (h : n ≤ degreeLimit) where
+  pub listing-few : length (listing n) ≤ 231
+  unfolding partitionCounts
+  listing-few = rw (count-kept n h) (leb-true _ 231 (every-at (_≤? 231) partitionCounts 0 n refl (omega arith)))
+
+  pub listing-some : 0 < length (listing n)
+  unfolding partitionCounts
+  listing-some = rw (count-kept n h) (ltb-true 0 _ (every-at (0 <?_) partitionCounts 0 n refl (omega arith)))
+
+  factorial-small : factorial n < 10 ^ 14
+  unfolding factorial
+  factorial-small = omega (arith, factorial-rises n 16 h)
+
+  module _ (class : Parts) (f : Fits n n class) where
+    value-short : (shape : Parts) → Fits n n shape → length (integer (shape on class)) ≤ 15
+    value-short shape g =
+        let small = character-bounded shape class (g .partition) (no-zero class (f .partition)) (g .whole ∙ sym (f .whole)) in
+        integer-length (shape on class) 13 (omega (arith, factorial-small, rw (f .whole) at small))
+
+    each-value : Each (λ z. length (integer z) ≤ 15) (column class)
+    unfolding column
+    each-value =
+        let each = each-map (Fits n n) (λ z. length (integer z) ≤ 15) (_on class) (listing n) value-short (each-listed n) in
+        rw (← f .whole) at each
+
+    values-short : length (commas (map integer (column class))) ≤ 231 * 16
+    values-short =
+        let each = each-map (λ z. length (integer z) ≤ 15) (λ t. length t ≤ 15) integer (column class) (λ z s. s) each-value in
+        omega (
+          arith,
+          commas-length 15 (map integer (column class)) each,
+          length-map (column class) integer,
+          column-length class,
+          ap (λ (m : ℕ). length (listing m)) (f .whole),
+          listing-few,
+        )
+
+    parts-short : length (commas (map decimal class)) ≤ 16 * 21
+    parts-short =
+        let each = each-map (λ p. Unit {0}) (λ t. length t ≤ 20) decimal class (λ p u. decimal-most p) (each-member _ class (λ p m. tt)) in
+        omega (
+          arith,
+          commas-length 20 (map decimal class) each,
+          length-map class decimal,
+          length-degree class (f .partition),
+          f .whole,
+        )
+
+    class-short : length (classLines class) ≤ 4100
+    unfolding classLines classText
+    class-short =
+        let p : Text = field "class=" (commas (map decimal class)) in
+        let s : Text = field "size=" (decimal (classSize class)) in
+        let v : Text = field "values=" (commas (map integer (column class))) in
+        omega (
+          arith,
+          length-append (p ++ s) v,
+          length-append p s,
+          line-length (ascii "class=") (commas (map decimal class)),
+          number-line (ascii "size=") (classSize class),
+          line-length (ascii "values=") (commas (map integer (column class))),
+          parts-short,
+          values-short,
+        )
+
+  -- ---- a table
+  table-short : length (table n (listing n)) ≤ room
+  unfolding table
+  table-short =
+      let d : Text = field "degree=" (decimal n) in
+      let k : Text = field "count=" (decimal (length (listing n))) in
+      let c : Text = joined classLines (listing n) in
+      let e : Text = field "end=" (decimal (length (listing n))) in
+      let each = each-same (Fits n n) (λ class. length (classLines class) ≤ 4100) (listing n) class-short (each-listed n) in
+      omega (
+        arith,
+        length-append (d ++ k ++ c) e,
+        length-append (d ++ k) c,
+        length-append d k,
+        number-line (ascii "degree=") n,
+        number-line (ascii "count=") (length (listing n)),
+        joined-length classLines 4100 (listing n) each,
+        number-line (ascii "end=") (length (listing n)),
+        listing-few,
+      )
+
+-- ---- what the program writes
+pub chartable-short : (input : Text) → length (chartable degreeLimit input) ≤ room
+unfolding chartable
+chartable-short input = go (firstOf rows) refl
+  where
+    n : ℕ
+    n = getD (asked input) 0 0
+
+    rows : List Row
+    rows = no-13 (not (length (asked input) =? 0)) ∷ no-12 degreeLimit n ∷ []
+
+    go : (k : ℕ) → firstOf rows ≡ k
+        → length (judged k (λ k. field "refused=" (decimal k)) (table n (listing n))) ≤ room
+    go zero e = table-short n (ltb-false degreeLimit n (none-applies rows refl e .1 .0))
+    go (suc k) e = omega (arith, number-line (ascii "refused=") (suc k))

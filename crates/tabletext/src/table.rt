@@ -1,0 +1,73 @@
+// The table of a degree, as text in lent bytes (see `text`).
+ghost use mathlib.Core.Path.{_≡_};
+ghost use mathlib.Core.List.{[]};
+ghost use Prim.Native.Nat.{_+_, _≤_, _<_};
+ghost use Rattle.theory.specs.Basics.{length, getD, joined};
+ghost use Rattle.theory.specs.Listing.{listing};
+ghost use Rattle.theory.specs.Refusals.{degreeLimit};
+ghost use Rattle.tabletext.specs.Table.{classLines, table as tableText};
+ghost use Rattle.tabletext.specs.Writing.{Wrote};
+use super::fields;
+
+// The number of partitions of a degree: so many values has a column.
+fn count(degree: u32) -> u32
+    requires { ⌜ degree ≤ degreeLimit ⌝ }
+    ensures { λ r. ⌜ r ≡ length (listing degree) ⌝ }
+{
+    let first = characters::listing::class_at(degree, 0);
+    let mut values = [0i64; 231];
+    let column = characters::column(first.word, &mut values);
+    column.count as u32
+}
+
+// The lines of the class of a rank.
+fn class(degree: u32, rank: u32, out: &mut [u8], at: usize) -> usize
+    requires { ⌜ degree ≤ degreeLimit ⌝ }
+    requires { ⌜ rank < length (listing degree) ⌝ }
+    requires { ⌜ at + length (classLines (getD (listing degree) rank [])) ≤ length (now out) ⌝ }
+    ensures { λ r. ⌜ Wrote (classLines (getD (listing degree) rank [])) at (now (out .entry)) r (now (out .exit)) ⌝ }
+{
+    let class = characters::listing::class_at(degree, rank);
+    let mut parts = [0u8; 16];
+    let written = words::classes::parts(class.word, &mut parts);
+    let size = words::classes::size(class.word);
+    let mut values = [0i64; 231];
+    let column = characters::column(class.word, &mut values);
+    let count = written.count;
+    let length = column.count;
+    fields::class(
+        &parts[..count],
+        size.number as u64,
+        &values[..length],
+        out,
+        at,
+    )
+}
+
+// The lines of all classes, in the order of the listing.
+fn classes(degree: u32, count: u32, out: &mut [u8], at: usize) -> usize
+    requires { ⌜ degree ≤ degreeLimit ⌝ }
+    requires { ⌜ count ≡ length (listing degree) ⌝ }
+    requires { ⌜ at + length (joined classLines (listing degree)) ≤ length (now out) ⌝ }
+    ensures { λ r. ⌜ Wrote (joined classLines (listing degree)) at (now (out .entry)) r (now (out .exit)) ⌝ }
+{
+    let mut end = at;
+    let mut rank = 0;
+    while rank < count {
+        end = class(degree, rank, out, end);
+        rank += 1;
+    }
+    end
+}
+
+pub fn table(degree: u32, out: &mut [u8], at: usize) -> usize
+    requires { ⌜ degree ≤ degreeLimit ⌝ }
+    requires { ⌜ at + length (tableText degree (listing degree)) ≤ length (now out) ⌝ }
+    ensures { λ r. ⌜ Wrote (tableText degree (listing degree)) at (now (out .entry)) r (now (out .exit)) ⌝ }
+{
+    let count = count(degree);
+    let end = fields::number(b"degree=", degree as u64, out, at);
+    let end = fields::number(b"count=", count as u64, out, end);
+    let end = classes(degree, count, out, end);
+    fields::number(b"end=", count as u64, out, end)
+}

@@ -1,0 +1,24 @@
+-- `window::runs::zembrusha_column` meets its contract: it hands on what the call answers.
+use mathlib.Core.Path.{_∙_, ap}
+use borrow.Author.Needs.{needs}
+use Rattle.window.specs.Exports.{ofCount}
+use Rattle.window.proofs.runs.zembrusha_column.Statement.{statement}
+use Rattle.window.proofs.runs.zembrusha_column.Tie as tie
+
+column-requires : tie.Need-column-requires
+column-requires c κs = search needs
+
+of-count-requires : tie.Need-of-count-requires
+of-count-requires c κs = search needs
+
+same-length : tie.Need-same-length
+same-length c = search needs
+
+returns : tie.Need-returns
+returns c =
+    let o = c .before .before .column .ensures in
+    record { answers = c .of-count .ensures ∙ ap ofCount (o .answers); leaves = o .leaves }
+
+pub zembrusha-column-spec : {M : Type 1} → statement M
+zembrusha-column-spec =
+    tie.close (tie.spec column-requires of-count-requires same-length returns)

@@ -1,0 +1,2 @@
+-- What the exports give of the calls' answers.
+pub mod Exports

@@ -2,6 +2,15 @@ pub mod Judging
 pub mod Signed
 pub mod HookSums
 pub mod Walks
+pub mod Cycles
+pub mod SoundLines
+pub mod Sums
+pub mod Strips
+pub mod Budgets
+pub mod Pages
+pub mod Openings
+pub mod Steps
+pub mod Strikes
 pub mod Places
 pub mod Lifts
 pub mod Entries

@@ -1,9 +1,15 @@
--- Signed numbers of 64 bits: one operation on two numbers that have room together gives the whole numbers' result.
+-- Signed numbers of 64 bits: one operation on two numbers that have room together gives the whole numbers' result; and
+-- the size of any number, of the least too.
 --   carried z   what 64 bits make of the whole number z: z itself, if its size is below 2^63
-use mathlib.Core.Path.{_≡_, _∙_, ap₂}
-use Prim.Native.Nat.{_+_, _^_, _≤_, _<_}
+--   Turned z    a number below 0, one added and the sign turned
+use mathlib.Core.Path.{_≡_, refl, _∙_, ap, ap₂}
+use mathlib.Core.Bool.{true, not, false≢true}
+use Prim.Native.Nat.{ℕ, zero, suc, _+_, _-_, _^_, _≤_, _<_}
 use native.Mathlib.Omega.{arith}
-use lib.IntN.{ℤ, pos, negsuc, _+ℤ_, _-ℤ_, negℤ, natAbs}
+use lib.Dec.{T}
+use lib.IntN.{ℤ, pos, negsuc, _+ℤ_, _-ℤ_, negℤ, natAbs, +ℤ-idl, negℤ-negℤ}
+use lib.Signed.{nonNeg, ltZ}
+use borrow.Author.Tests.{lt-ltb, le-ltb, ltb-true}
 use mir.Facts.{toZ-ofZ}
 use mir.Syntax.{w64}
 use mir.Val.{SFits, toZ, ofZ}
@@ -44,3 +50,43 @@ difference-fits = fits _-ℤ_ abs-sub
 
 pub difference-is : (x y : ℤ) → natAbs x + natAbs y < 2 ^ 63 → carried (carried x -ℤ carried y) ≡ x -ℤ y
 difference-is = is _-ℤ_ abs-sub
+
+-- ---- sizes
+up-one : (n : ℕ) → negsuc n +ℤ pos 1 ≡ negℤ (pos n)
+up-one zero = refl
+up-one (suc n) =
+    let k : suc (suc n) - 2 ≡ n = omega arith in
+    simp (lt-ltb 1 (suc (suc n)) (omega arith), k)
+
+pub record Turned (z : ℤ) : Type 0 where
+  pub up-fits : SFits w64 (carried z +ℤ pos 1)
+  pub turned-fits : SFits w64 (pos 0 -ℤ carried (carried z +ℤ pos 1))
+  pub turned : carried (pos 0 -ℤ carried (carried z +ℤ pos 1)) ≡ pos (natAbs z - 1)
+  pub some : 0 < natAbs z
+  pub top : natAbs z ≤ 2 ^ 63
+
+pub turned-up : (z : ℤ) → SFits w64 z → ltZ (carried z) (pos 0) ≡ true → Turned z
+turned-up (pos n) s below = absurd (omega (arith, ltb-true n 0 (rw (toZ-ofZ s) at below)))
+turned-up (negsuc n) s below =
+    let small : n < 2 ^ 63 = omega (arith, s .sfits) in
+    let up : carried (negsuc n) +ℤ pos 1 ≡ negℤ (pos n) = ap (λ z. z +ℤ pos 1) (toZ-ofZ s) ∙ up-one n in
+    let size : natAbs (negℤ (pos n)) ≡ n = abs-neg (pos n) in
+    let same : carried (negℤ (pos n)) ≡ negℤ (pos n) = carried-is (negℤ (pos n)) (omega arith) in
+    let back : pos 0 -ℤ negℤ (pos n) ≡ pos n = +ℤ-idl _ ∙ negℤ-negℤ (pos n) in
+    let less : suc n - 1 ≡ n = omega arith in
+    record {
+      up-fits = rw up (room (negℤ (pos n)) (omega arith));
+      turned-fits = rw (up, same, back) (room (pos n) small);
+      turned = rw (up, same, back, less) (carried-is (pos n) small);
+      some = omega arith;
+      top = omega arith;
+    }
+
+-- the test for a number below 0
+pub below-zero : (z : ℤ) → SFits w64 z → ltZ (carried z) (pos 0) ≡ not (nonNeg z)
+below-zero (pos n) s = rw (toZ-ofZ s) (le-ltb n 0 (omega arith))
+below-zero (negsuc n) s = rw (toZ-ofZ s) refl
+
+pub upright : (z : ℤ) → SFits w64 z → nonNeg z ≡ true → T (nonNeg (carried z)) × (natAbs (carried z) < 2 ^ 63)
+upright (pos n) s above = rw (toZ-ofZ s) (tt, s .sfits)
+upright (negsuc n) s above = absurd (false≢true above)

@@ -12,4 +12,6 @@ pub mod Opening
 pub mod Step
 pub mod Watch
 pub mod Run
+pub mod Lines
+pub mod Pages
 pub mod Examples

@@ -15,8 +15,12 @@ use words::NumberAnswer;
 mod columns;
 mod evaluation;
 mod hooks;
+mod lines;
 pub mod listing;
 mod lookup;
+mod page;
+pub mod sessions;
+mod soundness;
 mod tables;
 
 // A session's slip: the shape and the class asked for, the settled sum, the number of lines that wait, the steps.

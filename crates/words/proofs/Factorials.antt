@@ -3,8 +3,8 @@ use mathlib.Core.Path.{_≡_, refl}
 use Prim.Native.Nat.{_≤_, _<_}
 use native.Mathlib.Nat.{lt-of-le-of-lt}
 use native.Mathlib.Omega.{arith}
-use Rattle.theory.specs.Basics.{List, [], _∷_, ℕ, _^_, getD}
-use Rattle.theory.specs.Basics.Places.{tabled-at}
+use Rattle.theory.specs.Basics.{true, List, [], _∷_, ℕ, _^_, getD}
+use Rattle.theory.specs.Basics.Places.{tabled, tabled-at}
 use Rattle.theory.specs.Bounds.{factorial}
 use Rattle.theory.specs.Bounds.Laws.{factorial-rises}
 use Rattle.theory.specs.Refusals.{degreeLimit}
@@ -14,9 +14,12 @@ factorials =
     1 ∷ 1 ∷ 2 ∷ 6 ∷ 24 ∷ 120 ∷ 720 ∷ 5040 ∷ 40320 ∷ 362880 ∷ 3628800 ∷ 39916800 ∷ 479001600 ∷ 6227020800 ∷ 87178291200
     ∷ 1307674368000 ∷ 20922789888000 ∷ []
 
-pub factorial-at : (n : ℕ) → n ≤ degreeLimit → getD factorials n 0 ≡ factorial n
+pub factorials-tabled : tabled factorial 0 factorials ≡ true
 unfolding factorial
-factorial-at n h = tabled-at factorial factorials n refl (omega arith)
+factorials-tabled = refl
+
+pub factorial-at : (n : ℕ) → n ≤ degreeLimit → getD factorials n 0 ≡ factorial n
+factorial-at n h = tabled-at factorial factorials n factorials-tabled (omega arith)
 
 pub factorial-fits : (n : ℕ) → n ≤ degreeLimit → factorial n < 2 ^ 63
 unfolding factorial

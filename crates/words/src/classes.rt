@@ -22,7 +22,7 @@ use super::lists;
 use super::refused;
 
 // n! for the degrees 0 to 16.
-const FACTORIALS: [u64; 17] = [
+pub const FACTORIALS: [u64; 17] = [
     1,
     1,
     2,

@@ -15,11 +15,11 @@ use lib.Count.{leadingZeros, leading-top, trailingZeros}
 use Rattle.theory.specs.Basics.{true, false, [], _∷_, _++_, ℕ, zero, suc, _+_, _-_, _*_, _/_, _%_, _^_}
 use Rattle.theory.specs.Basics.{length, drop}
 use Rattle.theory.specs.Partition.{Parts, degree}
-use Rattle.theory.specs.Digits.{Digits, digits}
+use Rattle.theory.specs.Digits.{Digits, digits, word}
 use Rattle.theory.specs.Digits.Laws.{one-shifted, digits-rest, digits-one, length-digits}
 use Rattle.theory.specs.Digits.Low.{digits-last, low-zero, low-one, lowest-digit}
-use Rattle.theory.specs.ClassWord.{partsAfter}
-use Rattle.theory.specs.ClassWord.Laws.{parts-front}
+use Rattle.theory.specs.ClassWord.{classDigits, partsAfter}
+use Rattle.theory.specs.ClassWord.Laws.{parts-front, word-parts}
 
 pub record Next (W at x z b : ℕ) : Type 0 where
   pub above : at < z
@@ -86,6 +86,10 @@ parts-shift n zero x = rw (add-zero, mul-one)
 parts-shift n (suc k) x =
     let e : x * 2 ^ suc k ≡ x * 2 ^ k * 2 = omega (arith, ap (λ (y : ℕ). x * y) (pow-suc 2 k)) in
     rw (add-suc, e) (parts-double (n + k) (x * 2 ^ k) ∙ parts-shift n k x)
+
+-- what the n lowest digits give, moved up by k
+pub word-moved : (n k x : ℕ) → x < 2 ^ n → word (n + k) (classDigits (partsAfter 0 (digits n x))) ≡ x * 2 ^ k
+word-moved n k x h = rw (← parts-shift n k x) (word-parts (n + k) (x * 2 ^ k) (shl-lt n k h))
 
 abbrev pub Shifted : ℕ → ℕ → ℕ → Type 0
 Shifted W x z =

@@ -1,0 +1,98 @@
+-- What the loops over a page do to it. A line is taken out step by step: to move the next line down and to take that one
+-- out is to take this one out.
+use mathlib.Core.Path.{_≡_, refl, sym, _∙_, ap}
+use mathlib.Core.List.{append-nil}
+use Prim.Native.Nat.{_≤_, _<_}
+use native.Mathlib.Nat.{add-suc}
+use native.Mathlib.Numerals.{add-one}
+use native.Mathlib.Omega.{arith}
+use lib.ListN.{set, length-append, length-drop, length-replicate, drop-of-length-le}
+use lib.Seq.{take-take, take-set-lt, take-suc-set, drop-set-lt, drop-cons, append-snoc, getD-take, set-split}
+use lib.Seq.{length-take-le, drop-length, take-at, drop-append-add, sets, sets-eq}
+use Rattle.theory.specs.Basics.{List, [], _∷_, _++_, length, getD, take, drop, replicate, ℕ, zero, suc, _+_, _-_}
+use Rattle.theory.specs.Basics.Laws.{Each}
+use Rattle.characters.specs.Opening.{padded}
+use Rattle.characters.specs.Pages.{others, takenOut, Exchanges}
+
+-- ---- words that are 0
+pub zeros-are : (xs : List ℕ) → Each (λ x. x ≡ 0) xs → xs ≡ replicate (length xs) 0
+zeros-are [] e = refl
+zeros-are (x ∷ xs) e = rw (e .0, ← zeros-are xs (e .1))
+
+drop-zeros : (k n : ℕ) → drop k (replicate {A = ℕ} n 0) ≡ replicate (n - k) 0
+drop-zeros zero n =
+    let e : n - 0 ≡ n = omega arith in
+    rw e
+drop-zeros (suc k) zero =
+    let e : 0 - suc k ≡ 0 = omega arith in
+    rw e
+drop-zeros (suc k) (suc n) =
+    let e : suc n - suc k ≡ n - k = omega arith in
+    rw e (drop-zeros k n)
+
+pub cleared : (page : List ℕ) (i : ℕ) → i ≡ length page → replicate i 0 ++ drop i page ≡ replicate (length page) 0
+cleared page i e = rw (e, drop-length page, append-nil)
+
+-- ---- a line taken out
+module _ (page : List ℕ) (i lines : ℕ) (fit : lines ≤ length page) where
+  pub out-next : i + 1 < lines → takenOut (set page i (getD page (i + 1) 0)) (i + 1) lines ≡ takenOut page i lines
+  unfolding takenOut
+  out-next more =
+      let waiting : List ℕ = take lines page in
+      let there = length-take-le lines page fit in
+      rw (
+        add-one i,
+        take-set-lt lines page i (getD page (suc i) 0) (omega arith),
+        take-suc-set waiting i (getD page (suc i) 0) (omega arith),
+        drop-set-lt (suc (suc i)) waiting i (getD page (suc i) 0) (omega arith),
+        drop-set-lt lines page i (getD page (suc i) 0) (omega arith),
+        append-snoc (take i waiting) (getD page (suc i) 0) (drop (suc (suc i)) waiting),
+        drop-cons waiting (suc i) 0 (omega arith),
+        getD-take lines page (suc i) 0 (omega arith),
+      )
+
+  pub out-last : i + 1 ≡ lines → set page i 0 ≡ takenOut page i lines
+  unfolding takenOut
+  out-last last =
+      let e : lines ≡ suc i = omega arith in
+      let l = length-take-le (suc i) page (omega arith) in
+      rw (e, take-take i (suc i) page (omega arith), drop-of-length-le (take (suc i) page) {i = suc i} (omega arith), append-nil)
+      (set-split page i 0 (omega arith))
+
+-- ---- a strip put
+pub put-word : (page strip : List ℕ) (at i : ℕ) → i < length strip
+    → sets (set page (at + i) (getD strip i 0)) (at + (i + 1)) (drop (i + 1) strip) ≡ sets page (at + i) (drop i strip)
+put-word page strip at i l = rw (add-one i, add-suc at i, drop-cons strip i 0 l)
+
+pub put-last : (page strip : List ℕ) (at i : ℕ) → length strip ≤ i → page ≡ sets page (at + i) (drop i strip)
+put-last page strip at i l = rw (drop-of-length-le strip l)
+
+-- ---- a line exchanged for a strip
+module _ (page : List ℕ) (line lines : ℕ) (strip : List ℕ) (e : Exchanges page line lines strip) where
+  length-others : length (others page line lines) ≡ lines - 1
+  length-others = omega (
+    arith,
+    e .there,
+    length-append (take line (take lines page)) (drop (suc line) (take lines page)),
+    length-take-le line (take lines page) (omega (arith, length-take-le lines page (e .fit), e .there)),
+    length-drop (suc line) (take lines page),
+    length-take-le lines page (e .fit),
+  )
+
+  pub exchanged : sets (takenOut page line lines) (lines - 1) strip ≡ padded (others page line lines ++ strip) page
+  unfolding takenOut
+  exchanged =
+      let front : List ℕ = others page line lines in
+      let m : ℕ = suc (length page - lines) in
+      let zeros : drop lines page ≡ replicate (length page - lines) 0 =
+      zeros-are (drop lines page) (e .zeros) ∙ ap (λ (k : ℕ). replicate k 0) (length-drop lines page) in
+      let whole : List ℕ = front ++ replicate m 0 in
+      let long : length whole ≡ length page =
+      omega (arith, length-append front (replicate m 0), length-replicate {A = ℕ} m 0, length-others, e .there, e .fit) in
+      let after : m - length strip ≡ length page - length (front ++ strip) =
+      omega (arith, length-append front strip, length-others, e .there, e .fit) in
+      let seam : drop (lines - 1 + length strip) whole ≡ drop (length strip) (replicate m 0) =
+      ap (λ (k : ℕ). drop (k + length strip) whole) (sym length-others) ∙ drop-append-add front (replicate m 0) (length strip) in
+      ap (λ (r : List ℕ). sets (front ++ 0 ∷ r) (lines - 1) strip) zeros
+      ∙ sets-eq strip whole (lines - 1) (omega (arith, e .room))
+      ∙ rw (take-at front (replicate m 0) (lines - 1) length-others, seam, drop-zeros (length strip) m, after)

@@ -1,0 +1,63 @@
+-- `characters::lines::sum` meets its contract. What has been summed and what is left come to the whole.
+use native.Mathlib.Omega.{arith}
+use Prim.Native.Nat.{_-_}
+use borrow.Author.Needs.{needs}
+use mir.Syntax.{w64}
+use mir.Val.{toZ}
+use Rattle.theory.specs.Basics.{length}
+use Rattle.characters.proofs.Sums.{Summing, NextLine, sum-start, sum-next, sum-end}
+use Rattle.characters.proofs.lines.sum.Statement.{statement}
+use Rattle.characters.proofs.lines.sum.Tie as tie
+
+abbrev Inv-loop : tie.InvT-loop
+Inv-loop lines sum₀ i₀ sum i = Summing lines i (toZ w64 sum)
+
+abbrev μ-loop : tie.MeasureT-loop
+μ-loop lines sum₀ i₀ sum i = length lines - i
+
+next : (c : tie.In-loop Inv-loop μ-loop)
+    → NextLine (c .before .before .before .args .lines .now) (c .before .loop .i) (toZ w64 (c .before .loop .sum))
+next c =
+    let start = c .before .before .before in
+    sum-next _ (start .pre .0) (start .pre .1) _ _ (c .before .loop .inv) (c .loop-test .taken)
+
+loop-holds : tie.Need-loop-holds Inv-loop μ-loop
+loop-holds c = sum-start _ (c .before .pre .0) (c .before .pre .1)
+
+mul-added : tie.Need-mul-added Inv-loop μ-loop
+mul-added c = search needs
+
+shared-slice-read-added : tie.Need-shared-slice-read-added Inv-loop μ-loop
+shared-slice-read-added c = search needs
+
+added-requires : tie.Need-added-requires Inv-loop μ-loop
+added-requires c κs = (next (c .before) .fair, next (c .before) .room)
+
+add-i : tie.Need-add-i Inv-loop μ-loop
+add-i c = search needs
+
+loop-less : tie.Need-loop-less Inv-loop μ-loop
+loop-less c = omega arith
+
+loop-again : tie.Need-loop-again Inv-loop μ-loop
+loop-again c = rw (c .added .ensures) (next (c .before .before) .again)
+
+returns : tie.Need-returns Inv-loop μ-loop
+returns c =
+    let start = c .before .before .before in
+    sum-end _ (start .pre .0) (start .pre .1) _ _ (c .before .loop .inv) (c .loop-test .left)
+
+pub sum-spec : {M : Type 1} → statement M
+sum-spec =
+    tie.close
+    (tie.spec
+    Inv-loop
+    μ-loop
+    loop-holds
+    mul-added
+    shared-slice-read-added
+    added-requires
+    add-i
+    loop-less
+    loop-again
+    returns)

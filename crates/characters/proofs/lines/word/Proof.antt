@@ -1,0 +1,23 @@
+-- `characters::lines::word` meets its contract: the sign digit counts 2^63.
+use native.Mathlib.Omega.{arith}
+use borrow.Author.Needs.{needs}
+use Rattle.characters.proofs.lines.word.Statement.{statement}
+use Rattle.characters.proofs.lines.word.Tie as tie
+
+mul-plus : tie.Need-mul-plus
+mul-plus c = search needs
+
+add-plus : tie.Need-add-plus
+add-plus c = search needs
+
+add-result : tie.Need-add-result
+add-result c = search needs
+
+returns : tie.Need-returns
+returns c = rw (c .if1 .taken) (omega arith)
+
+returns-2 : tie.Need-returns-2
+returns-2 c = rw (c .if1 .left) (omega arith)
+
+pub word-spec : {M : Type 1} → statement M
+word-spec = tie.close (tie.spec mul-plus add-plus add-result returns returns-2)

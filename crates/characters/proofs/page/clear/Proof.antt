@@ -1,0 +1,59 @@
+-- `characters::page::clear` meets its contract: zeros stand before what is left of the page.
+use mathlib.Core.Path.{_≡_, refl, _∙_}
+use mathlib.Core.List.{_++_}
+use Prim.Native.Nat.{_-_, _≤_}
+use native.Mathlib.Omega.{arith}
+use borrow.Author.Fill.{fill-more}
+use borrow.Author.Needs.{needs}
+use lib.ListN.{length-set}
+use Rattle.theory.specs.Basics.{length, drop, replicate}
+use Rattle.characters.proofs.Pages.{cleared}
+use Rattle.characters.proofs.page.clear.Statement.{statement}
+use Rattle.characters.proofs.page.clear.Tie as tie
+
+abbrev Inv-loop : tie.InvT-loop
+Inv-loop page₀ i₀ page i = (i ≤ length page₀) × (page ≡ replicate i 0 ++ drop i page₀) × (length page ≡ length page₀)
+
+abbrev μ-loop : tie.MeasureT-loop
+μ-loop page₀ i₀ page i = length page₀ - i
+
+loop-holds : tie.Need-loop-holds Inv-loop μ-loop
+loop-holds c = (omega arith, refl, refl)
+
+mul-page : tie.Need-mul-page Inv-loop μ-loop
+mul-page c = search needs
+
+slice-write-page : tie.Need-slice-write-page Inv-loop μ-loop
+slice-write-page c = search needs
+
+add-i : tie.Need-add-i Inv-loop μ-loop
+add-i c = search needs
+
+loop-less : tie.Need-loop-less Inv-loop μ-loop
+loop-less c = omega arith
+
+loop-again : tie.Need-loop-again Inv-loop μ-loop
+loop-again c =
+    let l = c .before .loop in
+    (omega arith, rw (l .inv .1) (fill-more (l .i) 0 _ (omega arith)), simp length-set (l .inv .2))
+
+same-length : tie.Need-same-length Inv-loop μ-loop
+same-length c = search needs
+
+returns : tie.Need-returns Inv-loop μ-loop
+returns c = c .before .loop .inv .1 ∙ cleared _ (c .before .loop .i) (omega arith)
+
+pub clear-spec : {M : Type 1} → statement M
+clear-spec =
+    tie.close
+    (tie.spec
+    Inv-loop
+    μ-loop
+    loop-holds
+    mul-page
+    slice-write-page
+    add-i
+    loop-less
+    loop-again
+    same-length
+    returns)

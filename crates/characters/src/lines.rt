@@ -1,0 +1,157 @@
+// Waiting lines (document 01, "Slip and page"): a signed shape word and a class word in one word of 64 bits. A line is
+// read, weighed, and struck by a cycle of its class.
+ghost use mathlib.Core.Path.{_≡_};
+ghost use Prim.Native.Nat.{_+_, _<_, _≤_, _^_};
+ghost use lib.IntN.{_+ℤ_, natAbs};
+ghost use Rattle.theory.specs.Basics.{sum as sumOf};
+ghost use Rattle.theory.specs.Basics.Laws.{Each};
+ghost use Rattle.theory.specs.Bounds.{factorial};
+ghost use Rattle.theory.specs.Refusals.{degreeLimit};
+ghost use Rattle.words.specs.Answers.{Outcome};
+ghost use Rattle.characters.specs.Line.{line as lineWord, lineMinus, lineShape, lineClass};
+ghost use Rattle.characters.specs.Line.{lineDegree, signedCharacter, times};
+ghost use Rattle.characters.specs.Line.Laws.{over};
+ghost use Rattle.characters.specs.Sound.Laws.{SoundLine};
+ghost use Rattle.characters.specs.Lines.{soundDegree, struckClass, Strikes, stripped};
+use super::evaluation;
+use super::hooks;
+use super::judge;
+
+// What a cycle leaves of a class: whether the class has it, and the class word without it.
+pub struct Struck {
+    pub found: bool,
+    pub class: u32,
+}
+
+// The hook lines of a line: how many were put on a strip, and the sum of the signs of those that leave the empty shape.
+pub struct HookLines {
+    pub count: usize,
+    pub settled: i64,
+}
+
+// Whether the sign is minus.
+pub fn minus(line: u64) -> bool
+    ensures { λ r. ⌜ r ≡ lineMinus line ⌝ }
+{
+    (line >> 63) % 2 == 1
+}
+
+// The shape word, without the sign.
+pub fn shape(line: u64) -> u32
+    ensures { λ r. ⌜ r ≡ lineShape line ⌝ }
+{
+    ((line >> 32) % 0x8000_0000) as u32
+}
+
+pub fn class(line: u64) -> u32
+    ensures { λ r. ⌜ r ≡ lineClass line ⌝ }
+{
+    (line % 0x1_0000_0000) as u32
+}
+
+// A line of this sign, shape word and class word.
+pub fn word(minus: bool, shape: u32, class: u32) -> u64
+    requires { ⌜ shape < 2 ^ 31 ⌝ }
+    ensures { λ r. ⌜ r ≡ lineWord minus shape class ⌝ }
+{
+    let plus = shape as u64 * 0x1_0000_0000 + class as u64;
+    if minus {
+        plus + 0x8000_0000_0000_0000
+    } else {
+        plus
+    }
+}
+
+// The degree of a sound line of degree n at most, and 0 of any other word.
+pub fn degree(line: u64, n: u32) -> u32
+    requires { ⌜ n ≤ degreeLimit ⌝ }
+    ensures { λ r. ⌜ r ≡ soundDegree n line ⌝ }
+{
+    let degree = judge(shape(line), class(line)).degree;
+    if n < degree { 0 } else { degree }
+}
+
+// A class without one cycle: leading zeros give part after part, and what stands behind the cycle moves up to its place.
+pub fn strike(class: u32, cycle: u64) -> Struck
+    requires { ⌜ class < 2 ^ 31 ⌝ }
+    ensures { λ r. ⌜ r ≡ struckClass cycle class ⌝ }
+{
+    let mut rest = class;
+    let mut at = 0u32;
+    while rest != 0 {
+        let one = u32::leading_zeros(rest);
+        let part = one - at;
+        let behind = rest - (1u32 << (31 - one));
+        if part as u64 == cycle {
+            return Struck {
+                found: true,
+                class: class - rest + (behind << part),
+            };
+        }
+        at = one;
+        rest = behind;
+    }
+    Struck {
+        found: false,
+        class,
+    }
+}
+
+// A sum with a line's signed character.
+pub fn added(sum: i64, line: u64) -> i64
+    requires { ⌜ SoundLine degreeLimit line × (natAbs sum + factorial (lineDegree line) < 2 ^ 63) ⌝ }
+    ensures { λ r. ⌜ r ≡ sum +ℤ signedCharacter line ⌝ }
+{
+    evaluation::added(
+        sum,
+        minus(line),
+        evaluation::value(shape(line), class(line)),
+    )
+}
+
+// The sum of the signed characters of lines.
+pub fn sum(lines: &[u64]) -> i64
+    requires { ⌜ Each (SoundLine degreeLimit) (now lines) × (over factorial (now lines) < 2 ^ 63) ⌝ }
+    ensures { λ r. ⌜ r ≡ sumOf signedCharacter (now (lines .entry)) ⌝ }
+{
+    let mut sum = 0i64;
+    let mut i = 0;
+    while i < lines.len() {
+        sum = added(sum, lines[i]);
+        i += 1;
+    }
+    sum
+}
+
+// The sign of a product: whether just one of the two is minus.
+fn product(a: bool, b: bool) -> bool
+    ensures { λ r. ⌜ r ≡ times a b ⌝ }
+{
+    if a { !b } else { b }
+}
+
+// The hook lines of a line that is struck by a cycle, `class` being its class without it: those that wait go to the
+// front of a strip, in hook order; the signs of those that leave the empty shape are summed.
+pub fn strip(line: u64, cycle: u32, class: u32, strip: &mut [u64]) -> HookLines
+    requires { ⌜ Strikes cycle line class (now strip) ⌝ }
+    ensures { λ r. ⌜ Outcome (stripped cycle line (now (strip .entry))) r (now (strip .exit)) ⌝ }
+{
+    let shape = shape(line);
+    let minus = minus(line);
+    let mut marks = hooks::marks(shape, cycle);
+    let mut count = 0;
+    let mut settled = 0i64;
+    while marks != 0 {
+        let place = 31 - u32::leading_zeros(marks);
+        let leaves = hooks::leaves(shape, cycle, place);
+        let sign = product(minus, hooks::minus(shape, cycle, place));
+        marks -= 1u32 << place;
+        if leaves == 0 {
+            settled = evaluation::added(settled, sign, 1);
+        } else {
+            strip[count] = word(sign, leaves, class);
+            count += 1;
+        }
+    }
+    HookLines { count, settled }
+}

@@ -1,0 +1,53 @@
+// The page of a session (document 01, "Slip and page"): a line goes, later lines move down, hook lines come at the end.
+ghost use mathlib.Core.Path.{_≡_};
+ghost use mathlib.Core.List.{_++_};
+ghost use Prim.Native.Nat.{_+_, _-_, _<_, _≤_};
+ghost use lib.Seq.{sets};
+ghost use Rattle.theory.specs.Basics.{length, replicate};
+ghost use Rattle.characters.specs.Opening.{padded};
+ghost use Rattle.characters.specs.Pages.{Exchanges, others, takenOut};
+
+// Every word becomes 0.
+pub fn clear(page: &mut [u64])
+    ensures { λ _. ⌜ now (page .exit) ≡ replicate (length (now (page .entry))) 0 ⌝ }
+{
+    let mut i = 0;
+    while i < page.len() {
+        page[i] = 0;
+        i += 1;
+    }
+}
+
+// A line is taken out, later lines move down by one, and the word that is freed becomes 0.
+fn take_out(page: &mut [u64], line: usize, lines: usize)
+    requires { ⌜ (line < lines) × (lines ≤ length (now page)) ⌝ }
+    ensures { λ _. ⌜ now (page .exit) ≡ takenOut (now (page .entry)) line lines ⌝ }
+{
+    let mut i = line;
+    while i + 1 < lines {
+        page[i] = page[i + 1];
+        i += 1;
+    }
+    page[i] = 0;
+}
+
+// A strip of lines is put at a place that has room for them.
+fn put(page: &mut [u64], at: usize, strip: &[u64])
+    requires { ⌜ at + length (now strip) ≤ length (now page) ⌝ }
+    ensures { λ _. ⌜ now (page .exit) ≡ sets (now (page .entry)) at (now (strip .entry)) ⌝ }
+{
+    let mut i = 0;
+    while i < strip.len() {
+        page[at + i] = strip[i];
+        i += 1;
+    }
+}
+
+// A line of a page whose other words are 0 is taken out, and a strip of lines is put at the end of the others.
+pub fn exchange(page: &mut [u64], line: usize, lines: usize, strip: &[u64])
+    requires { ⌜ Exchanges (now page) line lines (now strip) ⌝ }
+    ensures { λ _. ⌜ now (page .exit) ≡ padded (others (now (page .entry)) line lines ++ now (strip .entry)) (now (page .entry)) ⌝ }
+{
+    take_out(page, line, lines);
+    put(page, lines - 1, strip);
+}

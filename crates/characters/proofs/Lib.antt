@@ -11,6 +11,7 @@ pub mod Pages
 pub mod Openings
 pub mod Steps
 pub mod Strikes
+pub mod Watches
 pub mod Places
 pub mod Lifts
 pub mod Entries

@@ -1,9 +1,15 @@
 -- No second outcome meets a contract. Each theorem is of the contract itself, as Rattle reads it (`Reads.Post`).
-use mathlib.Core.Path.{_≡_, sym, _∙_}
+use mathlib.Core.Path.{_≡_, refl, sym, _∙_, ap}
 use denote.Ref.{now}
+use Rattle.theory.specs.Basics.{ℕ}
 use Rattle.theory.specs.Refusals.{degreeLimit}
 use Rattle.words.specs.Answers.{one-outcome}
+use Rattle.characters.specs.declared.Watched.{Watched}
+use Rattle.characters.specs.declared.Watched.the-variants.{Whole, Ratio, Refused}
 use Rattle.characters.specs.Calls.{columnInto}
+use Rattle.characters.specs.Opening.{opening}
+use Rattle.characters.specs.Step.{step}
+use Rattle.characters.specs.Watch.{Value, whole, quotient, none, reads}
 use Rattle.characters.proofs.character.Reads as character
 use Rattle.characters.proofs.character_degree.Reads as character-degree
 use Rattle.characters.proofs.column.Reads as column
@@ -11,6 +17,9 @@ use Rattle.characters.proofs.listing.shape_at.Reads as shape-at
 use Rattle.characters.proofs.listing.class_at.Reads as class-at
 use Rattle.characters.proofs.listing.shape_rank.Reads as shape-rank
 use Rattle.characters.proofs.listing.class_rank.Reads as class-rank
+use Rattle.characters.proofs.sessions.open.Reads as open-session
+use Rattle.characters.proofs.sessions.step.Reads as step-session
+use Rattle.characters.proofs.sessions.watch.Reads as watch-session
 
 -- ---- characters
 pub character-once : (κs : _) (a : _) (r r′ : _) (s s′ : _) → character.Post κs a r s
@@ -39,3 +48,28 @@ shape-rank-once κs a r r′ s s′ p q = p ∙ sym q
 pub class-rank-once : (κs : _) (a : _) (r r′ : _) (s s′ : _) → class-rank.Post κs a r s → class-rank.Post κs a r′ s′
     → r ≡ r′
 class-rank-once κs a r r′ s s′ p q = p ∙ sym q
+
+-- ---- sessions
+pub open-once : (κs : _) (a : _) (r r′ : _) (s s′ : _) → open-session.Post κs a r s → open-session.Post κs a r′ s′
+    → (r ≡ r′) × (now (s .1 .1 .0) ≡ now (s′ .1 .1 .0))
+open-once κs a r r′ s s′ p q = one-outcome (opening degreeLimit (a .0) (a .1 .0) (now (a .1 .1 .0))) p q
+
+pub step-once : (κs : _) (a : _) (r r′ : _) (s s′ : _) → step-session.Post κs a r s → step-session.Post κs a r′ s′
+    → (r ≡ r′) × (now (s .1 .0) ≡ now (s′ .1 .0))
+step-once κs a r r′ s s′ p q =
+    one-outcome (step degreeLimit (a .0) (now (a .1 .0)) (a .1 .1 .0) (a .1 .1 .1 .0)) p q
+
+-- the number and the value of an answer tell which answer it is
+abbrev answerOf : ℕ × Value → Watched
+answerOf (k, whole z) = Whole z
+answerOf (k, quotient q) = Ratio q
+answerOf (k, none) = Refused k
+
+answer-read : (r : Watched) → answerOf (reads r) ≡ r
+answer-read (Whole z) = refl
+answer-read (Ratio q) = refl
+answer-read (Refused k) = refl
+
+pub watch-once : (κs : _) (a : _) (r r′ : _) (s s′ : _) → watch-session.Post κs a r s → watch-session.Post κs a r′ s′
+    → r ≡ r′
+watch-once κs a r r′ s s′ p q = sym (answer-read r) ∙ ap answerOf (p ∙ sym q) ∙ answer-read r′

@@ -4,17 +4,18 @@
 --   others page line lines     the lines without one; takenOut .., with what follows: 0 in the freed word, and the rest
 --   Exchanges ..               there is such a line, the words after the lines are 0, and the strip has room
 --   pageRows ..                what slip and page are judged by before anything else; namedRows .., line and cycle
+--   watchRows ..               what a watch is judged by
 --   namedLine ..               refused by a row, or the class word of the line without the cycle
 use mathlib.Core.Path.{_≡_}
 use Prim.Native.Nat.{_<_, _≤_}
-use Rattle.theory.specs.Basics.{Bool, true, _&&_, List, _∷_, _++_, length, take, drop, ℕ, suc, _+_, _-_, _=?_, _≤?_}
+use Rattle.theory.specs.Basics.{Bool, true, cond, _&&_, List, _∷_, _++_, length, take, drop, ℕ, suc, _+_, _-_, _=?_, _≤?_}
 use Rattle.theory.specs.Basics.{[], getD, every}
 use Rattle.theory.specs.Basics.Laws.{Each}
 use Rattle.theory.specs.Basics.Places.{tabled}
 use Rattle.theory.specs.Bounds.{factorial, S}
 use Rattle.theory.specs.Partition.{without}
 use Rattle.theory.specs.ClassWord.{classWord, classOf}
-use Rattle.theory.specs.Refusals.{degreeLimit, Row, firstOf, judged, no-6, no-7, no-8, no-9}
+use Rattle.theory.specs.Refusals.{degreeLimit, Row, firstOf, judged, no-6, no-7, no-8, no-9, no-15}
 use Rattle.characters.specs.declared.Slip.{Slip}
 use Rattle.characters.specs.declared.sessions.Named.{Named}
 use Rattle.characters.specs.Line.{lineClass}
@@ -58,3 +59,7 @@ unfoldable pub namedLine : ℕ → Slip → List ℕ → ℕ → ℕ → Named
 namedLine limit slip page line cycle =
     judged (firstOf (namedRows limit slip page line cycle)) (λ k. named k 0)
     (named 0 (classWord (without cycle (classOf (lineClass (getD page line 0))))))
+
+abbrev pub watchRows : ℕ → Slip → List ℕ → ℕ → ℕ → List Row
+watchRows limit slip page kind line =
+    no-6 page ∷ no-7 (sound limit slip page) ∷ no-15 kind ∷ cond (kind ≤? 2) (no-8 (slip .lines) line ∷ []) []

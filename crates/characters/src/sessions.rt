@@ -3,13 +3,18 @@
 ghost use mathlib.Core.Path.{_≡_};
 ghost use Rattle.theory.specs.Refusals.{degreeLimit, firstOf};
 ghost use Rattle.words.specs.Answers.{Outcome};
-ghost use Prim.Native.Nat.{_+_, _<_, _^_};
+ghost use Prim.Native.Nat.{_+_, _≤_, _<_, _^_};
 ghost use lib.IntN.{pos, _+ℤ_, natAbs};
+ghost use lib.Ieee.{binary64, ofInt, div};
 ghost use Rattle.characters.specs.Opening.{slipOf, blank, handed, opening};
 ghost use Rattle.characters.specs.Step.{step as stepOf};
-ghost use Rattle.characters.specs.Pages.{pageRows, namedLine};
+ghost use Rattle.characters.specs.Sound.Laws.{SoundLine};
+ghost use Rattle.characters.specs.Watch.{reads, ratio as ratioOf, watch as watchOf};
+ghost use Rattle.characters.specs.Pages.{pageRows, namedLine, watchRows};
 use super::Handed;
 use super::Slip;
+use super::Watched;
+use super::character_degree;
 use super::evaluation;
 use super::judge;
 use super::lines;
@@ -161,5 +166,64 @@ pub fn step(slip: Slip, page: &mut [u64], line: usize, cycle: u64) -> Handed
     Handed {
         refused: 0,
         slip: next_slip(slip, hooks.settled, after),
+    }
+}
+
+// The judge of a watch, in the order 6, 7, 15, 8; kinds 3 to 5 ignore the line number.
+fn judge_watch(slip: Slip, page: &[u64], kind: u64, line: usize) -> u8
+    ensures { λ r. ⌜ r ≡ firstOf (watchRows degreeLimit slip (now (page .entry)) kind line) ⌝ }
+{
+    let refused = judge_page(slip, page);
+    if refused != 0 {
+        return refused;
+    }
+    if kind == 0 {
+        return 15;
+    }
+    if 5 < kind {
+        return 15;
+    }
+    if 2 < kind {
+        return 0;
+    }
+    if slip.lines <= line {
+        return 8;
+    }
+    0
+}
+
+// One division of two numbers that are carried over without loss.
+fn divided(number: i64, by: i64) -> f64
+    requires { ⌜ (natAbs number ≤ 2 ^ 53) × (natAbs by ≤ 2 ^ 53) ⌝ }
+    ensures { λ r. ⌜ r ≡ div binary64 (ofInt binary64 number) (ofInt binary64 by) ⌝ }
+{
+    (number as f64) / (by as f64)
+}
+
+// A line's signed character by the character degree of its shape.
+fn ratio(line: u64) -> f64
+    requires { ⌜ SoundLine degreeLimit line ⌝ }
+    ensures { λ r. ⌜ r ≡ ratioOf line ⌝ }
+{
+    let degree = character_degree(lines::shape(line));
+    divided(lines::added(0, line), degree.number)
+}
+
+// What a kind shows: 1 a line's signed character, 2 its ratio, 3 the settled sum, 4 the sum of all signed waiting
+// characters, 5 the steps. Refuses 6, 7, 15, 8.
+pub fn watch(slip: Slip, page: &[u64], kind: u64, line: usize) -> Watched
+    ensures { λ r. ⌜ reads r ≡ watchOf degreeLimit slip (now (page .entry)) kind line ⌝ }
+{
+    let refused = judge_watch(slip, page, kind, line);
+    if refused != 0 {
+        return Watched::Refused(refused);
+    }
+    let lines = slip.lines;
+    match kind {
+        1 => Watched::Whole(lines::added(0, page[line])),
+        2 => Watched::Ratio(ratio(page[line])),
+        3 => Watched::Whole(slip.settled),
+        4 => Watched::Whole(lines::sum(&page[..lines])),
+        _ => Watched::Whole(slip.steps),
     }
 }

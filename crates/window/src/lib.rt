@@ -2,6 +2,7 @@
 // declares them; tests/window holds the two against each other.
 
 pub mod runs;
+pub mod sessions;
 pub mod singles;
 
 // A word or a count, 0 when refused, with the refusal number beside it.
@@ -9,4 +10,21 @@ pub mod singles;
 pub struct Number {
     pub refused: u32,
     pub number: u64,
+}
+
+// A session's slip.
+#[repr(C)]
+pub struct Slip {
+    pub shape: u32,
+    pub class_word: u32,
+    pub settled: i64,
+    pub lines: u64,
+    pub steps: i64,
+}
+
+// A slip with the refusal number beside it.
+#[repr(C)]
+pub struct Handed {
+    pub refused: u32,
+    pub slip: Slip,
 }

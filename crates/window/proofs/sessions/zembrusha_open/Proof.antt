@@ -1,0 +1,24 @@
+-- `window::sessions::zembrusha_open` meets its contract: it hands on what the call answers.
+use mathlib.Core.Path.{_∙_, ap}
+use borrow.Author.Needs.{needs}
+use Rattle.characters.specs.declared.Handed.{Handed}
+use Rattle.window.specs.Exports.{handedOver}
+use Rattle.window.proofs.sessions.zembrusha_open.Statement.{statement}
+use Rattle.window.proofs.sessions.zembrusha_open.Tie as tie
+
+open-requires : tie.Need-open-requires
+open-requires c κs = search needs
+
+slip-out-requires : tie.Need-slip-out-requires
+slip-out-requires c κs = search needs
+
+same-length : tie.Need-same-length
+same-length c = search needs
+
+returns : tie.Need-returns
+returns c =
+    let o = c .before .before .before .before .open .ensures in
+    record { answers = c .slip-out .ensures ∙ ap (λ (h : Handed). handedOver (h .refused) (h .slip)) (o .answers); leaves = o .leaves }
+
+pub zembrusha-open-spec : {M : Type 1} → statement M
+zembrusha-open-spec = tie.close (tie.spec open-requires slip-out-requires same-length returns)

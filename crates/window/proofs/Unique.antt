@@ -5,7 +5,9 @@ use Rattle.theory.specs.Refusals.{degreeLimit}
 use Rattle.words.specs.Answers.{one-outcome}
 use Rattle.words.specs.Calls.{shapePartsInto, classPartsInto}
 use Rattle.characters.specs.Calls.{columnInto}
-use Rattle.window.specs.Exports.{counted}
+use Rattle.characters.specs.Opening.{opening}
+use Rattle.characters.specs.Step.{step as stepOf}
+use Rattle.window.specs.Exports.{counted, given, handedRun}
 use Rattle.window.proofs.singles.zembrusha_character.Reads as character
 use Rattle.window.proofs.singles.zembrusha_character_refusal.Reads as character-refusal
 use Rattle.window.proofs.singles.zembrusha_degree.Reads as degree
@@ -25,6 +27,11 @@ use Rattle.window.proofs.runs.zembrusha_class_word.Reads as class-word
 use Rattle.window.proofs.runs.zembrusha_shape_parts.Reads as shape-parts
 use Rattle.window.proofs.runs.zembrusha_class_parts.Reads as class-parts
 use Rattle.window.proofs.runs.zembrusha_column.Reads as column
+use Rattle.window.proofs.sessions.zembrusha_open.Reads as opened
+use Rattle.window.proofs.sessions.zembrusha_step.Reads as stepped
+use Rattle.window.proofs.sessions.zembrusha_watch_whole.Reads as watch-whole
+use Rattle.window.proofs.sessions.zembrusha_watch_ratio.Reads as watch-ratio
+use Rattle.window.proofs.sessions.zembrusha_watch_refusal.Reads as watch-refusal
 
 -- ---- single calls
 pub zembrusha-character-once : (κs : _) (a : _) (r r′ : _) (s s′ : _) → character.Post κs a r s
@@ -103,3 +110,26 @@ zembrusha-class-parts-once κs a r r′ s s′ p q = one-outcome (counted (class
 pub zembrusha-column-once : (κs : _) (a : _) (r r′ : _) (s s′ : _) → column.Post κs a r s → column.Post κs a r′ s′
     → (r ≡ r′) × (now (s .1 .0) ≡ now (s′ .1 .0))
 zembrusha-column-once κs a r r′ s s′ p q = one-outcome (counted (columnInto degreeLimit (a .0) (now (a .1 .0)))) p q
+
+-- ---- sessions
+pub zembrusha-open-once : (κs : _) (a : _) (r r′ : _) (s s′ : _) → opened.Post κs a r s → opened.Post κs a r′ s′
+    → (r ≡ r′) × (now (s .1 .1 .0) ≡ now (s′ .1 .1 .0))
+zembrusha-open-once κs a r r′ s s′ p q =
+    one-outcome (handedRun (opening degreeLimit (a .0) (a .1 .0) (now (a .1 .1 .0)))) p q
+
+pub zembrusha-step-once : (κs : _) (a : _) (r r′ : _) (s s′ : _) → stepped.Post κs a r s → stepped.Post κs a r′ s′
+    → (r ≡ r′) × (now (s .1 .0) ≡ now (s′ .1 .0))
+zembrusha-step-once κs a r r′ s s′ p q =
+    one-outcome (handedRun (stepOf degreeLimit (given (a .0)) (now (a .1 .0)) (a .1 .1 .0) (a .1 .1 .1 .0))) p q
+
+pub zembrusha-watch-whole-once : (κs : _) (a : _) (r r′ : _) (s s′ : _) → watch-whole.Post κs a r s
+    → watch-whole.Post κs a r′ s′ → r ≡ r′
+zembrusha-watch-whole-once κs a r r′ s s′ p q = p ∙ sym q
+
+pub zembrusha-watch-ratio-once : (κs : _) (a : _) (r r′ : _) (s s′ : _) → watch-ratio.Post κs a r s
+    → watch-ratio.Post κs a r′ s′ → r ≡ r′
+zembrusha-watch-ratio-once κs a r r′ s s′ p q = p ∙ sym q
+
+pub zembrusha-watch-refusal-once : (κs : _) (a : _) (r r′ : _) (s s′ : _) → watch-refusal.Post κs a r s
+    → watch-refusal.Post κs a r′ s′ → r ≡ r′
+zembrusha-watch-refusal-once κs a r r′ s s′ p q = p ∙ sym q

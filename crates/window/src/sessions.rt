@@ -4,9 +4,11 @@ ghost use Rattle.theory.specs.Refusals.{degreeLimit};
 ghost use Rattle.words.specs.Answers.{Outcome};
 ghost use Rattle.characters.specs.Opening.{opening};
 ghost use Rattle.characters.specs.Step.{step};
-ghost use Rattle.window.specs.Exports.{given, handedOver, handedRun};
+ghost use Rattle.characters.specs.Watch.{reads, watch};
+ghost use Rattle.window.specs.Exports.{given, handedOver, handedRun, number, fraction};
 use super::Handed;
 use super::Slip;
+use characters::Watched;
 
 fn slip_in(slip: Slip) -> characters::Slip
     ensures { λ r. ⌜ r ≡ given slip ⌝ }
@@ -53,4 +55,61 @@ pub extern "C" fn zembrusha_step(slip: Slip, page: &mut [u64], line: u64, cycle:
     let stepped = characters::sessions::step(slip_in(slip), page, line as usize, cycle);
     let next = stepped.slip;
     slip_out(stepped.refused, next)
+}
+
+// The whole number of what was watched, 0 where there is none.
+fn whole(watched: Watched) -> i64
+    ensures { λ r. ⌜ r ≡ number (reads watched .1) ⌝ }
+{
+    match watched {
+        Watched::Whole(number) => number,
+        Watched::Ratio(_) => 0,
+        Watched::Refused(_) => 0,
+    }
+}
+
+// The ratio of what was watched, 0 where there is none.
+fn ratio(watched: Watched) -> f64
+    ensures { λ r. ⌜ r ≡ fraction (reads watched .1) ⌝ }
+{
+    match watched {
+        Watched::Ratio(ratio) => ratio,
+        Watched::Whole(_) => 0.0,
+        Watched::Refused(_) => 0.0,
+    }
+}
+
+// The number that refused, 0 for none.
+fn refusal(watched: Watched) -> u32
+    ensures { λ r. ⌜ r ≡ reads watched .0 ⌝ }
+{
+    match watched {
+        Watched::Refused(number) => number as u32,
+        Watched::Whole(_) => 0,
+        Watched::Ratio(_) => 0,
+    }
+}
+
+// The whole number that a watch gives, 0 where it gives none.
+#[no_mangle]
+pub extern "C" fn zembrusha_watch_whole(slip: Slip, page: &[u64], kind: u64, line: u64) -> i64
+    ensures { λ r. ⌜ r ≡ number (watch degreeLimit (given slip) (now (page .entry)) kind line .1) ⌝ }
+{
+    whole(characters::sessions::watch(slip_in(slip), page, kind, line as usize))
+}
+
+// The ratio that a watch gives, 0 where it gives none.
+#[no_mangle]
+pub extern "C" fn zembrusha_watch_ratio(slip: Slip, page: &[u64], kind: u64, line: u64) -> f64
+    ensures { λ r. ⌜ r ≡ fraction (watch degreeLimit (given slip) (now (page .entry)) kind line .1) ⌝ }
+{
+    ratio(characters::sessions::watch(slip_in(slip), page, kind, line as usize))
+}
+
+// The refusal number of the same watch, 0 for none.
+#[no_mangle]
+pub extern "C" fn zembrusha_watch_refusal(slip: Slip, page: &[u64], kind: u64, line: u64) -> u32
+    ensures { λ r. ⌜ r ≡ watch degreeLimit (given slip) (now (page .entry)) kind line .0 ⌝ }
+{
+    refusal(characters::sessions::watch(slip_in(slip), page, kind, line as usize))
 }

@@ -8,8 +8,8 @@ use borrow.Author.Tests.{le-leb, lt-leb, eq-eqb, ne-eqb}
 use lib.ListN.{drop-of-length-le, length-drop}
 use lib.Seq.{drop-cons, take-all}
 use lib.Signed.{nonNeg}
-use Rattle.theory.specs.Basics.{Bool, true, false, cond, List, [], _∷_, length, getD, take, drop, ℕ, _+_, _-_, _=?_, every}
-use Rattle.theory.specs.Basics.{natAbs}
+use Rattle.theory.specs.Basics.{Bool, true, false, cond, List, [], _∷_, length, getD, take, drop, ℕ, _+_, _-_}
+use Rattle.theory.specs.Basics.{natAbs, _=?_, every}
 use Rattle.theory.specs.Basics.Places.{tabled-at}
 use Rattle.theory.specs.Bounds.{factorial, S}
 use Rattle.theory.specs.Refusals.{degreeLimit, firstOf, pairRows}
@@ -55,7 +55,8 @@ pub tabled-is : {f : ℕ → ℕ} {table : List ℕ} → Tabled f table → (d :
 tabled-is {f} {table} t d small = tabled-at f table d (t .rule) (omega (arith, t .size))
 
 -- ---- the line at place i
-module _ (n value span : ℕ) (xs : List ℕ) (i : ℕ) (h : i < length xs) (d : ℕ) (e : d ≡ soundDegree n (getD xs i 0)) where
+module _ (n value span : ℕ) (xs : List ℕ) (i : ℕ) (h : i < length xs) (d : ℕ)
+    (e : d ≡ soundDegree n (getD xs i 0)) where
   abbrev x : ℕ
   x = getD xs i 0
 
@@ -77,11 +78,13 @@ module _ (n value span : ℕ) (xs : List ℕ) (i : ℕ) (h : i < length xs) (d :
           let s = sized n x d e some in
           rw (drop-cons xs i 0 h, s .sound, ← s .degree, ← cost, le-leb f value paid, ← steps, lt-leb m span short)
 
-      pub afforded-next : m ≤ span → affords n (value - f) (span - m) (drop (i + 1) xs) ≡ affords n value span (drop i xs)
+      pub afforded-next : m ≤ span
+          → affords n (value - f) (span - m) (drop (i + 1) xs) ≡ affords n value span (drop i xs)
       unfolding affords
       afforded-next lasts =
           let s = sized n x d e some in
-          rw (drop-cons xs i 0 h, s .sound, ← s .degree, ← cost, le-leb f value paid, ← steps, le-leb m span lasts, add-one)
+          let pays = le-leb f value paid in
+          rw (drop-cons xs i 0 h, s .sound, ← s .degree, ← cost, pays, ← steps, le-leb m span lasts, add-one)
 
 pub afforded-all : (n value span : ℕ) (xs : List ℕ) (i : ℕ) → length xs ≤ i → affords n value span (drop i xs) ≡ true
 unfolding affords
@@ -105,8 +108,8 @@ words-from page k = take-all (length page - k) (drop k page) (omega (arith, leng
 -- ---- the tables
 abbrev pub spans : List ℕ
 spans =
-    0 ∷ 1 ∷ 3 ∷ 10 ∷ 41 ∷ 206 ∷ 1237 ∷ 8660 ∷ 69281 ∷ 623530 ∷ 6235301 ∷ 68588312 ∷ 823059745 ∷ 10699776686 ∷ 149796873605
-    ∷ 2246953104076 ∷ 35951249665217 ∷ []
+    0 ∷ 1 ∷ 3 ∷ 10 ∷ 41 ∷ 206 ∷ 1237 ∷ 8660 ∷ 69281 ∷ 623530 ∷ 6235301 ∷ 68588312 ∷ 823059745 ∷ 10699776686
+    ∷ 149796873605 ∷ 2246953104076 ∷ 35951249665217 ∷ []
 
 pub spans-tabled : Tabled S spans
 spans-tabled = record { size = refl; rule = unfold S in refl }
@@ -125,7 +128,8 @@ module _ (n settled steps lines : ℕ) (page : List ℕ) (value : ℕ) (cost : v
     unfolding budgetSuffices
     steps-long short = rw (← cost, le-leb settled value paid, ← most, lt-leb steps span short)
 
-    module _ (lasts : steps ≤ span) (b : Bool) (lines-pay : b ≡ affords n (value - settled) (span - steps) (take lines page)) where
+    module _ (lasts : steps ≤ span) (b : Bool)
+        (lines-pay : b ≡ affords n (value - settled) (span - steps) (take lines page)) where
       pub lines-dear : b ≡ false → false ≡ budgetSuffices n settled steps lines page
       unfolding budgetSuffices
       lines-dear short = rw (← cost, le-leb settled value paid, ← most, le-leb steps span lasts, ← lines-pay, short)
@@ -136,11 +140,14 @@ module _ (n settled steps lines : ℕ) (page : List ℕ) (value : ℕ) (cost : v
 
 -- ---- whether slip and page are sound
 module _ (slip : Slip) (page : List ℕ) where
-  pub words-refused : (firstOf (pairRows degreeLimit (slip .shape) (slip .class)) ≡ 0 → ⊥) → false ≡ sound degreeLimit slip page
-  unfolding budgeted
-  words-refused some = sym (sound-by-budget degreeLimit slip page ∙ rw (ne-eqb (firstOf (pairRows degreeLimit (slip .shape) (slip .class))) 0 some))
+  abbrev first : ℕ
+  first = firstOf (pairRows degreeLimit (slip .shape) (slip .class))
 
-  module _ (words : firstOf (pairRows degreeLimit (slip .shape) (slip .class)) ≡ 0) where
+  pub words-refused : (first ≡ 0 → ⊥) → false ≡ sound degreeLimit slip page
+  unfolding budgeted
+  words-refused some = sym (sound-by-budget degreeLimit slip page ∙ rw (ne-eqb first 0 some))
+
+  module _ (words : first ≡ 0) where
     pub lines-long : length page < slip .lines → false ≡ sound degreeLimit slip page
     unfolding budgeted
     lines-long long = sym (sound-by-budget degreeLimit slip page ∙ rw (words, lt-leb (slip .lines) (length page) long))
@@ -148,7 +155,8 @@ module _ (slip : Slip) (page : List ℕ) where
     module _ (fit : slip .lines ≤ length page) where
       pub steps-back : nonNeg (slip .steps) ≡ false → false ≡ sound degreeLimit slip page
       unfolding budgeted
-      steps-back back = sym (sound-by-budget degreeLimit slip page ∙ rw (words, le-leb (slip .lines) (length page) fit, back))
+      steps-back back =
+          sym (sound-by-budget degreeLimit slip page ∙ rw (words, le-leb (slip .lines) (length page) fit, back))
 
       pub then-budget : nonNeg (slip .steps) ≡ true
           → budgetSuffices (asked slip) (natAbs (slip .settled)) (natAbs (slip .steps)) (slip .lines) page

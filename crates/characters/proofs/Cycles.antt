@@ -1,6 +1,6 @@
--- A cycle struck from a class word while the word is read: what has been read stays, what is left goes without the cycle.
---   Striking w cycle at rest   of the class word w, `at` digits have been read, none of their parts is the cycle, and the
---                              number `rest` is left
+-- A cycle struck from a class word while the word is read: what has been read stays, what is left goes without it.
+--   Striking w cycle at rest   of the class word w, `at` digits have been read, none of their parts is the cycle, and
+--                              the number `rest` is left
 use mathlib.Core.Path.{_≡_, refl, _∙_}
 use Prim.Native.Nat.{_<_, _≤_}
 use native.Mathlib.Nat.{mod-eq-of-lt}
@@ -9,7 +9,7 @@ use borrow.Author.Tests.{eq-eqb, ne-eqb}
 use lib.Count.{leadingZeros}
 use lib.Pow.{pow-mono, shl-lt}
 use Rattle.theory.specs.Basics.{true, false, [], ℕ, _+_, _-_, _*_, _%_, _^_}
-use Rattle.theory.specs.Partition.{times, without}
+use Rattle.theory.specs.Partition.{Parts, times, without}
 use Rattle.theory.specs.Digits.{word}
 use Rattle.theory.specs.Digits.Laws.{one-shifted, word-none, word-below}
 use Rattle.theory.specs.ClassWord.{classDigits, classWord, classOf}
@@ -78,11 +78,16 @@ module _ (w cycle at rest : ℕ) (s : Striking w cycle at rest) where
     strike-miss miss =
         let t = turn at rest more (s .below) in
         let e = ne-eqb (one - at) cycle miss in
-        let rest-word = word-front (31 - at) (one - at) (without cycle (partsLeft one behind)) (omega (arith, t .above)) (omega (arith, t .within)) in
+        let others : Parts = without cycle (partsLeft one behind) in
+        let part : 0 < one - at = omega (arith, t .above) in
+        let fits : one - at ≤ 31 - at = omega (arith, t .within) in
         let size : 31 - at - (one - at) ≡ 31 - one = omega (arith, t .above, t .within) in
+        let shifted = one-shifted 32 (31 - one) (omega arith) in
         record {
           below = t .left;
           inside = omega (arith, s .inside);
-          makes = s .makes ∙ rw (t .reads, e, rest-word, size, ← one-shifted 32 (31 - one) (omega arith)) (omega (arith, t .takes, s .inside));
+          makes = s .makes
+              ∙ rw (t .reads, e, word-front (31 - at) (one - at) others part fits, size, ← shifted)
+              (omega (arith, t .takes, s .inside));
           counts = s .counts ∙ rw (t .reads, e);
         }

@@ -54,7 +54,8 @@ module _ (s c : ℕ) (page : List ℕ) where
       empty-opens e =
           let d = eq-eqb (degree (shapeOf s)) 0 e in
           let all : length page - 0 ≡ length page = omega arith in
-          let pass : firstOf (pairRows degreeLimit s c ++ rows) ≡ 0 = page-passes ∙ rw (d, le-ltb (length page) 0 (omega arith)) in
+          let pass : firstOf (pairRows degreeLimit s c ++ rows) ≡ 0 =
+          page-passes ∙ rw (d, le-ltb (length page) 0 (omega arith)) in
           rw (pass, d, all) (record { answers = refl; leaves = refl })
 
       module _ (some : degree (shapeOf s) ≡ 0 → ⊥) where
@@ -69,5 +70,6 @@ module _ (s c : ℕ) (page : List ℕ) where
         unfolding opening
         line-opens room =
             let d = ne-eqb (degree (shapeOf s)) 0 some in
-            let pass : firstOf (pairRows degreeLimit s c ++ rows) ≡ 0 = page-passes ∙ rw (d, le-ltb (length page) 1 (omega arith)) in
+            let pass : firstOf (pairRows degreeLimit s c ++ rows) ≡ 0 =
+            page-passes ∙ rw (d, le-ltb (length page) 1 (omega arith)) in
             rw (pass, d) (record { answers = refl; leaves = set-first (length page) (line false s c) room })

@@ -1,6 +1,6 @@
--- What the loops over a page do to it. A line is taken out step by step: to move the next line down and to take that one
--- out is to take this one out.
-use mathlib.Core.Path.{_≡_, refl, sym, _∙_, ap}
+-- What the loops over a page do to it. A line is taken out step by step: to move the next line down and to take that
+-- one out is to take this one out.
+use mathlib.Core.Path.{_≡_, refl, _∙_, ap}
 use mathlib.Core.List.{append-nil}
 use Prim.Native.Nat.{_≤_, _<_}
 use native.Mathlib.Nat.{add-suc}
@@ -11,8 +11,7 @@ use lib.Seq.{take-take, take-set-lt, take-suc-set, drop-set-lt, drop-cons, appen
 use lib.Seq.{length-take-le, drop-length, take-at, drop-append-add, sets, sets-eq}
 use Rattle.theory.specs.Basics.{List, [], _∷_, _++_, length, getD, take, drop, replicate, ℕ, zero, suc, _+_, _-_}
 use Rattle.theory.specs.Basics.Laws.{Each}
-use Rattle.characters.specs.Opening.{padded}
-use Rattle.characters.specs.Pages.{others, takenOut, Exchanges}
+use Rattle.characters.specs.Pages.{others, takenOut, Exchanges, exchanged}
 
 -- ---- words that are 0
 pub zeros-are : (xs : List ℕ) → Each (λ x. x ≡ 0) xs → xs ≡ replicate (length xs) 0
@@ -56,8 +55,9 @@ module _ (page : List ℕ) (i lines : ℕ) (fit : lines ≤ length page) where
   out-last last =
       let e : lines ≡ suc i = omega arith in
       let l = length-take-le (suc i) page (omega arith) in
-      rw (e, take-take i (suc i) page (omega arith), drop-of-length-le (take (suc i) page) {i = suc i} (omega arith), append-nil)
-      (set-split page i 0 (omega arith))
+      let gone : drop (suc i) (take (suc i) page) ≡ [] =
+      drop-of-length-le (take (suc i) page) {i = suc i} (omega arith) in
+      rw (e, take-take i (suc i) page (omega arith), gone, append-nil) (set-split page i 0 (omega arith))
 
 -- ---- a strip put
 pub put-word : (page strip : List ℕ) (at i : ℕ) → i < length strip
@@ -79,20 +79,20 @@ module _ (page : List ℕ) (line lines : ℕ) (strip : List ℕ) (e : Exchanges 
     length-take-le lines page (e .fit),
   )
 
-  pub exchanged : sets (takenOut page line lines) (lines - 1) strip ≡ padded (others page line lines ++ strip) page
+  pub out-and-put : sets (takenOut page line lines) (lines - 1) strip ≡ exchanged page line lines strip
   unfolding takenOut
-  exchanged =
+  out-and-put =
       let front : List ℕ = others page line lines in
       let m : ℕ = suc (length page - lines) in
       let zeros : drop lines page ≡ replicate (length page - lines) 0 =
       zeros-are (drop lines page) (e .zeros) ∙ ap (λ (k : ℕ). replicate k 0) (length-drop lines page) in
       let whole : List ℕ = front ++ replicate m 0 in
       let long : length whole ≡ length page =
-      omega (arith, length-append front (replicate m 0), length-replicate {A = ℕ} m 0, length-others, e .there, e .fit) in
+      rw (length-append, length-replicate) (omega (arith, length-others, e .there, e .fit)) in
       let after : m - length strip ≡ length page - length (front ++ strip) =
       omega (arith, length-append front strip, length-others, e .there, e .fit) in
       let seam : drop (lines - 1 + length strip) whole ≡ drop (length strip) (replicate m 0) =
-      ap (λ (k : ℕ). drop (k + length strip) whole) (sym length-others) ∙ drop-append-add front (replicate m 0) (length strip) in
+      rw (← length-others) (drop-append-add front (replicate m 0) (length strip)) in
       ap (λ (r : List ℕ). sets (front ++ 0 ∷ r) (lines - 1) strip) zeros
       ∙ sets-eq strip whole (lines - 1) (omega (arith, e .room))
       ∙ rw (take-at front (replicate m 0) (lines - 1) length-others, seam, drop-zeros (length strip) m, after)

@@ -43,9 +43,11 @@ module _ (slip : Slip) (page : List ℕ) where
   pub page-fair : firstOf (pageRows degreeLimit slip page) ≡ 0 → (length page ≤ pageLimit) × Sound degreeLimit slip page
   page-fair none =
       let a = none-applies (pageRows degreeLimit slip page) refl none in
-      (ltb-false pageLimit (length page) (a .0), is-sound degreeLimit slip page (not-false (sound degreeLimit slip page) (a .1 .0)))
+      let fair = not-false (sound degreeLimit slip page) (a .1 .0) in
+      (ltb-false pageLimit (length page) (a .0), is-sound degreeLimit slip page fair)
 
-  pub fair-line : Sound degreeLimit slip page → (line : ℕ) → line < slip .lines → SoundLine degreeLimit (getD page line 0)
+  pub fair-line : Sound degreeLimit slip page → (line : ℕ) → line < slip .lines
+      → SoundLine degreeLimit (getD page line 0)
   fair-line fair line there =
       let s = each-at (SoundLine (asked slip)) (waiting slip page) 0 line (fair .lines)
       (omega (arith, length-take-le (slip .lines) page (fair .fit))) in
@@ -88,7 +90,10 @@ module _ (slip : Slip) (page : List ℕ) (line cycle : ℕ) where
     no-such-line l = named-refused 8 (page-passes ∙ rw (le-leb (slip .lines) line l)) (λ z. omega arith)
 
     module _ (there : line < slip .lines) (s : Struck) (e : s ≡ struckClass cycle (lineClass chosen)) where
-      found : s .found ≡ not (times cycle (classOf (lineClass chosen)) =? 0)
+      abbrev absent : Bool
+      absent = times cycle (classOf (lineClass chosen)) =? 0
+
+      found : s .found ≡ not absent
       unfolding struckClass
       found = ap (λ (x : Struck). x .found) e
 
@@ -96,7 +101,7 @@ module _ (slip : Slip) (page : List ℕ) (line cycle : ℕ) where
       no-such-cycle f =
           named-refused 9
           (page-passes
-          ∙ rw (lt-leb (slip .lines) line there, not-false (times cycle (classOf (lineClass chosen)) =? 0) (sym found ∙ f)))
+          ∙ rw (lt-leb (slip .lines) line there, not-false absent (sym found ∙ f)))
           (λ z. omega arith)
 
       pub cycle-found : s .found ≡ true → named 0 (s .class) ≡ judge
@@ -104,7 +109,7 @@ module _ (slip : Slip) (page : List ℕ) (line cycle : ℕ) where
       cycle-found t =
           let pass : firstOf (namedRows degreeLimit slip page line cycle) ≡ 0 =
           page-passes
-          ∙ rw (lt-leb (slip .lines) line there, not-true (times cycle (classOf (lineClass chosen)) =? 0) (sym found ∙ t)) in
+          ∙ rw (lt-leb (slip .lines) line there, not-true absent (sym found ∙ t)) in
           rw pass (ap (λ (x : Struck). named 0 (x .class)) e)
 
   -- ---- a line that is chosen
@@ -133,7 +138,8 @@ module _ (slip : Slip) (page : List ℕ) (line cycle : ℕ) where
     unfolding namedLine
     number = ap (λ (x : judgement.Named). x .refused) e ∙ judge-number _ _
 
-    pub named-refuses : (r .refused ≡ 0 → ⊥) → Outcome (step degreeLimit slip page line cycle) (handed (r .refused) slip) page
+    pub named-refuses : (r .refused ≡ 0 → ⊥)
+        → Outcome (step degreeLimit slip page line cycle) (handed (r .refused) slip) page
     named-refuses some =
         step-refused (r .refused)
         (first-refuses (namedRows degreeLimit slip page line cycle) lastRow (λ z. some (number ∙ z)) ∙ sym number) some

@@ -1,5 +1,5 @@
--- What comes of a step that names a line and a cycle: its hook lines have room on a strip, and what is settled and counted
--- has room in 64 bits.
+-- What comes of a step that names a line and a cycle: its hook lines have room on a strip, and what is settled and
+-- counted has room in 64 bits.
 --   Hooked .. h strip   what the hook lines h on the strip tell
 use mathlib.Core.Path.{_≡_, refl, sym, _∙_, ap}
 use Prim.Native.Nat.{_≤_, _<_}
@@ -8,8 +8,8 @@ use borrow.Author.Tests.{lt-ltb, le-ltb}
 use lib.IntN.{+ℤ-idl}
 use lib.ListN.{length-append}
 use lib.Seq.{take-at}
-use Rattle.theory.specs.Basics.{Bool, true, false, not, cond, List, [], _∷_, _++_, length, getD, take, ℕ, suc, _+_, _-_, _^_}
-use Rattle.theory.specs.Basics.{ℤ, pos, _+ℤ_, natAbs, keep, sum}
+use Rattle.theory.specs.Basics.{Bool, true, false, not, cond, List, [], _∷_, _++_, length, getD, take, ℕ, suc}
+use Rattle.theory.specs.Basics.{_+_, _-_, _^_, ℤ, pos, _+ℤ_, natAbs, keep, sum}
 use Rattle.theory.specs.Partition.{without}
 use Rattle.theory.specs.ClassWord.{classWord, classOf}
 use Rattle.theory.specs.Bounds.{S}
@@ -29,7 +29,7 @@ use Rattle.characters.specs.Step.{empty, nextLines, nextSlip, step}
 use Rattle.characters.specs.Step.Strike.{gone, left}
 use Rattle.characters.specs.Step.Named.{Named, settled-within, settled-room, next-length}
 use Rattle.characters.specs.Lines.{Strikes, stripped}
-use Rattle.characters.specs.Pages.{others, Exchanges, namedRows}
+use Rattle.characters.specs.Pages.{Exchanges, exchanged, namedRows}
 use Rattle.characters.proofs.Signed.{carried, carried-is}
 use Rattle.characters.proofs.Steps.{fair-line, lastRow, step-refused}
 
@@ -37,7 +37,8 @@ length-keep : {A : Type 0} (test : A → Bool) (xs : List A) → length (keep te
 length-keep test [] = omega arith
 length-keep test (x ∷ xs) = go (test x) (length-keep test xs)
   where
-    go : (b : Bool) → length (keep test xs) ≤ length xs → length (cond b (x ∷ keep test xs) (keep test xs)) ≤ suc (length xs)
+    go : (b : Bool) → length (keep test xs) ≤ length xs
+        → length (cond b (x ∷ keep test xs) (keep test xs)) ≤ suc (length xs)
     go true less = omega arith
     go false less = omega arith
 
@@ -125,7 +126,7 @@ module _ (slip : Slip) (page : List ℕ) (line cycle : ℕ) (n : Named degreeLim
     unfolding nextSlip
     slip-after = rw (gone-carried, lines-after)
 
-    page-after : padded (others page line (slip .lines) ++ take (h .count) strip) page
+    page-after : exchanged page line (slip .lines) (take (h .count) strip)
         ≡ padded (nextLines slip page line cycle) page
     unfolding nextLines
     page-after = rw (k .front)
@@ -147,7 +148,7 @@ module _ (slip : Slip) (page : List ℕ) (line cycle : ℕ) (n : Named degreeLim
       pub struck : slip .lines - 1 + h .count ≤ length page → (next : Slip) (after : List ℕ)
           → next ≡ slipOf (slip .shape) (slip .class) (slip .settled +ℤ carried (h .settled))
           (slip .lines - 1 + h .count) (slip .steps +ℤ pos 1)
-          → after ≡ padded (others page line (slip .lines) ++ take (h .count) strip) page
+          → after ≡ exchanged page line (slip .lines) (take (h .count) strip)
           → Outcome (step degreeLimit slip page line cycle) (handed 0 next) after
       unfolding step
       struck room next after en ea =

@@ -1,5 +1,5 @@
--- A walk over the hooks of a line that is struck: those of the marks passed stand on the strip or are settled, and those
--- of the marks left make the rest of both.
+-- A walk over the hooks of a line that is struck: those of the marks passed stand on the strip or are settled, and
+-- those of the marks left make the rest of both.
 --   lineAt cycle x class b   the hook line of the hook that begins at place b
 --   Coming ..                the hook lines that are still to come and what has been done make the whole
 --   Stripping ..             the walk, with the marks `left` still to come
@@ -51,7 +51,8 @@ module _ (cycle x : ℕ) (lent : List ℕ) where
   all-coming : length (Strike.left cycle x) ≤ length lent → Coming lent 0 (pos 0) (hookLines cycle x)
   all-coming room = record { puts = put-start _ lent room; counts = omega arith; settles = +ℤ-idl _ }
 
-  module _ {strip : List ℕ} {count : ℕ} {settled : ℤ} {y : ℕ} {ys : List ℕ} (c : Coming strip count settled (y ∷ ys)) where
+  module _ {strip : List ℕ} {count : ℕ} {settled : ℤ} {y : ℕ} {ys : List ℕ}
+      (c : Coming strip count settled (y ∷ ys)) where
     goes-off : empty y ≡ true → Coming strip count (settled +ℤ weight y) ys
     goes-off e = record {
       puts = rw e at (c .puts);
@@ -69,18 +70,18 @@ module _ (cycle x : ℕ) (lent : List ℕ) where
       settles = rw e at (c .settles);
     }
 
-  module _ {strip : List ℕ} {count : ℕ} {settled : ℤ} (room : length (Strike.left cycle x) ≤ length lent) (c : Coming strip count settled []) where
-    all-come : Outcome (stripped cycle x lent) (hookCount count settled) strip
-    unfolding stripped
-    all-come =
-        let counted : count ≡ length (Strike.left cycle x) = omega (arith, c .counts) in
-        let all : settled ≡ sum weight (gone cycle x) = sym (+ℤ-idr settled) ∙ c .settles in
-        record { answers = rw (counted, all) refl; leaves = put-all (Strike.left cycle x) lent room (c .puts) refl }
+  all-come : (strip : List ℕ) (count : ℕ) (settled : ℤ) → length (Strike.left cycle x) ≤ length lent
+      → Coming strip count settled [] → Outcome (stripped cycle x lent) (hookCount count settled) strip
+  unfolding stripped
+  all-come strip count settled room c =
+      let counted : count ≡ length (Strike.left cycle x) = omega (arith, c .counts) in
+      let all : settled ≡ sum weight (gone cycle x) = sym (+ℤ-idr settled) ∙ c .settles in
+      record { answers = rw (counted, all) refl; leaves = put-all (Strike.left cycle x) lent room (c .puts) refl }
 
 -- ---- the walk
 abbrev lineAt : ℕ → ℕ → ℕ → ℕ → ℕ
 lineAt cycle x class b =
-    line (times (lineMinus x) (markedHook cycle (lineShape x) b .minus)) (markedHook cycle (lineShape x) b .leaves) class
+    let hook = markedHook cycle (lineShape x) b in line (times (lineMinus x) (hook .minus)) (hook .leaves) class
 
 signed-one : (minus : Bool) → signed minus (pos 1) ≡ cond minus (negsuc 0) (pos 1)
 signed-one true = refl
@@ -124,7 +125,8 @@ module _ (cycle x class : ℕ) (lent : List ℕ) where
     )
 
     class-fits : class < 2 ^ 32
-    class-fits = omega (arith, asked .class-left, word-below width (classDigits (without cycle (classOf (lineClass x)))))
+    class-fits =
+        rw (asked .class-left) (omega (arith, word-below width (classDigits (without cycle (classOf (lineClass x))))))
 
     made : hookLines cycle x ≡ unmade (marks (lineShape x) cycle)
     unfolding hookLines
@@ -161,7 +163,9 @@ module _ (cycle x class : ℕ) (lent : List ℕ) where
           let read = read-back minus (hook .leaves) class (omega arith) class-fits in
           let coming = rw (top .rest) at (w .coming) in
           let few = rw (top .rest) at (w .few) in
-          let one : signed minus (pos 1) ≡ weight y = signed-one minus ∙ ap (λ (m : Bool). cond m (negsuc 0) (pos 1)) (sym (read .its-minus)) in
+          let one : signed minus (pos 1) ≡ weight y = rw (read .its-minus) (signed-one minus) in
+          let stands : (hook .leaves ≡ 0 → ⊥) → empty y ≡ false =
+          λ some. ne-eqb (lineShape y) 0 (λ e. some (sym (read .its-shape) ∙ e)) in
           let grows = abs-add settled (signed minus (pos 1)) in
           let size = abs-signed minus (pos 1) in
           record {
@@ -179,11 +183,11 @@ module _ (cycle x class : ℕ) (lent : List ℕ) where
                   coming = rw one (goes-off cycle x lent coming (eq-eqb (lineShape y) 0 (read .its-shape ∙ none)));
                   few = omega arith;
                 });
-            inside = λ some. has-room cycle x lent coming (ne-eqb (lineShape y) 0 (λ e. some (sym (read .its-shape) ∙ e)));
+            inside = λ some. has-room cycle x lent coming (stands some);
             stays = λ some. record {
               below = omega (arith, w .below);
               begun = others;
-              coming = goes-on cycle x lent coming (ne-eqb (lineShape y) 0 (λ e. some (sym (read .its-shape) ∙ e)));
+              coming = goes-on cycle x lent coming (stands some);
               few = omega arith;
             };
           }
@@ -191,4 +195,4 @@ module _ (cycle x class : ℕ) (lent : List ℕ) where
       pub strip-end : left ≡ 0 → Outcome (stripped cycle x lent) (hookCount count settled) strip
       strip-end e =
           let none : places width left ≡ [] = rw e (places-none width) in
-          all-come cycle x lent (asked .room) (rw none at (w .coming))
+          all-come cycle x lent strip count settled (asked .room) (rw none at (w .coming))

@@ -1,5 +1,5 @@
--- A loop that sums the signed characters of lines: what has been summed and what is left come to the whole, and a budget
--- that falls keeps the sum within 64 bits.
+-- A loop that sums the signed characters of lines: what has been summed and what is left come to the whole, and a
+-- budget that falls keeps the sum within 64 bits.
 --   Summing lines i z    the first i lines have come to z
 --   NextLine lines i z   what the next turn finds, and what it leaves
 use mathlib.Core.Path.{_≡_, sym, _∙_}

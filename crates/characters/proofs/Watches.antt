@@ -14,7 +14,8 @@ use Rattle.theory.specs.ShapeWord.{shapeOf}
 use Rattle.theory.specs.Character.{characterDegree}
 use Rattle.theory.specs.Bounds.{factorial}
 use Rattle.theory.specs.Refusals.{firstOf, degreeLimit, shapeRows, no-8, no-15, Row}
-use Rattle.theory.specs.Refusals.Laws.{first-part, first-refuses, none-refuses, none-applies, judged-refused, judged-given}
+use Rattle.theory.specs.Refusals.Laws.{first-part, first-refuses, none-refuses, none-applies}
+use Rattle.theory.specs.Refusals.Laws.{judged-refused, judged-given}
 use Rattle.words.specs.declared.NumberAnswer.{NumberAnswer}
 use Rattle.words.specs.Answers.{numberAnswer}
 use Rattle.words.proofs.Factorials.{factorial-fits}
@@ -45,7 +46,8 @@ module _ (slip : Slip) (page : List ℕ) (kind line : ℕ) where
 
   module _ (clear : firstOf (pageRows degreeLimit slip page) ≡ 0) where
     passes : first ≡ firstOf behind
-    passes = none-refuses (pageRows degreeLimit slip page) behind (none-applies (pageRows degreeLimit slip page) refl clear)
+    passes =
+        none-refuses (pageRows degreeLimit slip page) behind (none-applies (pageRows degreeLimit slip page) refl clear)
 
     pub kind-zero : kind ≡ 0 → 15 ≡ first
     kind-zero z = sym (passes ∙ rw (lt-leb 1 kind (omega arith)))
@@ -55,17 +57,18 @@ module _ (slip : Slip) (page : List ℕ) (kind line : ℕ) where
       kind-above above = sym (passes ∙ rw (le-leb 1 kind (omega arith), lt-leb kind 5 above))
 
       module _ (within : kind ≤ 5) where
+        kind-passes : first ≡ firstOf (cond (kind ≤? 2) (no-8 (slip .lines) line ∷ []) [])
+        kind-passes = passes ∙ rw (le-leb 1 kind (omega arith), le-leb kind 5 within)
+
         pub line-ignored : 2 < kind → 0 ≡ first
-        line-ignored above = sym (passes ∙ rw (le-leb 1 kind (omega arith), le-leb kind 5 within, lt-leb kind 2 above))
+        line-ignored above = sym (kind-passes ∙ rw (lt-leb kind 2 above))
 
         module _ (of-line : kind ≤ 2) where
           pub line-missing : slip .lines ≤ line → 8 ≡ first
-          line-missing l =
-              sym (passes ∙ rw (le-leb 1 kind (omega arith), le-leb kind 5 within, le-leb kind 2 of-line, le-leb (slip .lines) line l))
+          line-missing l = sym (kind-passes ∙ rw (le-leb kind 2 of-line, le-leb (slip .lines) line l))
 
           pub line-there : line < slip .lines → 0 ≡ first
-          line-there l =
-              sym (passes ∙ rw (le-leb 1 kind (omega arith), le-leb kind 5 within, le-leb kind 2 of-line, lt-leb (slip .lines) line l))
+          line-there l = sym (kind-passes ∙ rw (le-leb kind 2 of-line, lt-leb (slip .lines) line l))
 
   -- ---- the watch
   abbrev Shows : ℕ → Value → Type 0
@@ -88,7 +91,10 @@ module _ (slip : Slip) (page : List ℕ) (kind line : ℕ) where
       let pass : first ≡ 0 = sym e ∙ z in
       let clear = first-part (pageRows degreeLimit slip page) behind pass in
       let some : kind ≡ 0 → ⊥ = λ none. omega (arith, kind-zero clear none) in
-      let within : kind ≤ 5 = elim (decLe kind 5) [ yes l ↦ l | no f ↦ absurd (omega (arith, kind-above clear some (omega arith))) ] in
+      let within : kind ≤ 5 = elim (decLe kind 5) [
+        | yes l ↦ l
+        | no f ↦ absurd (omega (arith, kind-above clear some (omega arith)))
+      ] in
       record {
         fair = page-fair slip page clear .1;
         some = omega arith;
@@ -104,8 +110,8 @@ module _ (slip : Slip) (page : List ℕ) (kind line : ℕ) where
   pub shows-at : Watching → (i : ℕ) → kind ≡ i + 1 → (v : Value) → v ≡ getD (shown slip page (getD page line 0)) i none
       → Shows 0 v
   shows-at w i e v is =
-      let place : i ≡ kind - 1 = omega arith in
-      ap {B = ℕ × Value} (λ (u : Value). (0, u)) (is ∙ ap (λ (j : ℕ). getD (shown slip page (getD page line 0)) j none) place) ∙ w .shows
+      let place : kind - 1 ≡ i = omega arith in
+      ap {B = ℕ × Value} (λ (u : Value). (0, u)) (rw place is) ∙ w .shows
 
 -- a kind that is none of the first four is the fifth
 pub last-kind : (kind : ℕ) → 1 ≤ kind → kind ≤ 5 → (kind ≡ 1 → ⊥) → (kind ≡ 2 → ⊥) → (kind ≡ 3 → ⊥) → (kind ≡ 4 → ⊥)
@@ -143,7 +149,8 @@ module _ (x : ℕ) (s : SoundLine degreeLimit x) where
   alone-fits = omega (arith, factorial-fits (lineDegree x) (s .within))
 
   pub alone-carried : carried (pos 0 +ℤ signedCharacter x) ≡ signedCharacter x
-  alone-carried = rw (+ℤ-idl (signedCharacter x)) (carried-is (signedCharacter x) (omega (arith, line-bounded s, alone-fits)))
+  alone-carried =
+      rw (+ℤ-idl (signedCharacter x)) (carried-is (signedCharacter x) (omega (arith, line-bounded s, alone-fits)))
 
   -- the character degree, as the call answers it
   module _ (a : NumberAnswer) (e : a ≡ shapeCharacterDegree degreeLimit (lineShape x)) where
@@ -165,7 +172,7 @@ module _ (x : ℕ) (s : SoundLine degreeLimit x) where
     pub ratio-fits : (natAbs (carried (pos 0 +ℤ signedCharacter x)) ≤ 2 ^ 53) × (natAbs (carried (a .number)) ≤ 2 ^ 53)
     ratio-fits = rw (alone-carried, degree-carried) (fits .character-fits, fits .degree-fits)
 
-    pub ratio-is : div binary64 (ofInt binary64 (carried (pos 0 +ℤ signedCharacter x))) (ofInt binary64 (carried (a .number)))
-        ≡ ratio x
+    pub ratio-is : div binary64 (ofInt binary64 (carried (pos 0 +ℤ signedCharacter x)))
+        (ofInt binary64 (carried (a .number))) ≡ ratio x
     unfolding ratio
     ratio-is = rw (alone-carried, degree-carried)

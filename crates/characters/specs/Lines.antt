@@ -1,9 +1,9 @@
 -- What the private functions on waiting lines are asked.
 --   soundDegree n x       the degree of a sound line x of degree n at most, and 0 of any other word
 --   struckClass cycle w   a class word without one cycle: whether it has such a cycle, and the word that is left
---   Strikes ..            a sound line x is struck by a cycle of its class, `class` is the class word without it, and the
---                         strip has room for the hook lines that wait
---   stripped ..           what comes of it: how many hook lines wait and what is settled, and the strip with those lines
+--   Strikes ..            a sound line x is struck by a cycle of its class, `class` is the class word without it, and
+--                         the strip has room for the hook lines that wait
+--   stripped ..           what comes of it: how many hook lines wait, what is settled, and those lines on the strip
 use mathlib.Core.Path.{_≡_}
 use Prim.Native.Nat.{_≤_}
 use Rattle.theory.specs.Basics.{Bool, not, cond, List, _++_, length, drop, ℕ, ℤ, _=?_, sum}

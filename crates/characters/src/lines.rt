@@ -71,7 +71,7 @@ pub fn degree(line: u64, n: u32) -> u32
     if n < degree { 0 } else { degree }
 }
 
-// A class without one cycle: leading zeros give part after part, and what stands behind the cycle moves up to its place.
+// A class without one cycle: leading zeros give part after part, and what stands behind the cycle moves up.
 pub fn strike(class: u32, cycle: u64) -> Struck
     requires { ⌜ class < 2 ^ 31 ⌝ }
     ensures { λ r. ⌜ r ≡ struckClass cycle class ⌝ }

@@ -1,20 +1,18 @@
 // The page of a session (document 01, "Slip and page"): a line goes, later lines move down, hook lines come at the end.
 ghost use mathlib.Core.Path.{_≡_};
-ghost use mathlib.Core.List.{_++_};
-ghost use Prim.Native.Nat.{_+_, _-_, _<_, _≤_};
+ghost use Prim.Native.Nat.{_+_, _<_, _≤_};
 ghost use lib.Seq.{sets};
 ghost use Rattle.theory.specs.Basics.{length, replicate};
-ghost use Rattle.characters.specs.Opening.{padded};
-ghost use Rattle.characters.specs.Pages.{Exchanges, others, takenOut};
+ghost use Rattle.characters.specs.Pages.{Exchanges, exchanged, takenOut};
 
 // Every word becomes 0.
 pub fn clear(page: &mut [u64])
     ensures { λ _. ⌜ now (page .exit) ≡ replicate (length (now (page .entry))) 0 ⌝ }
 {
-    let mut i = 0;
-    while i < page.len() {
-        page[i] = 0;
-        i += 1;
+    let mut at = 0;
+    while at < page.len() {
+        page[at] = 0;
+        at += 1;
     }
 }
 
@@ -46,7 +44,7 @@ fn put(page: &mut [u64], at: usize, strip: &[u64])
 // A line of a page whose other words are 0 is taken out, and a strip of lines is put at the end of the others.
 pub fn exchange(page: &mut [u64], line: usize, lines: usize, strip: &[u64])
     requires { ⌜ Exchanges (now page) line lines (now strip) ⌝ }
-    ensures { λ _. ⌜ now (page .exit) ≡ padded (others (now (page .entry)) line lines ++ now (strip .entry)) (now (page .entry)) ⌝ }
+    ensures { λ _. ⌜ now (page .exit) ≡ exchanged (now (page .entry)) line lines (now (strip .entry)) ⌝ }
 {
     take_out(page, line, lines);
     put(page, lines - 1, strip);

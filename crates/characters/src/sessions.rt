@@ -1,14 +1,14 @@
 // Sessions (document 01, "Slip and page", "Watches"): opened, stepped and watched over a lent page. Everything is read
 // before the first word is written, and a refused call writes nothing.
 ghost use mathlib.Core.Path.{_≡_};
-ghost use Rattle.theory.specs.Refusals.{degreeLimit, firstOf};
-ghost use Rattle.words.specs.Answers.{Outcome};
 ghost use Prim.Native.Nat.{_+_, _≤_, _<_, _^_};
 ghost use lib.IntN.{pos, _+ℤ_, natAbs};
 ghost use lib.Ieee.{binary64, ofInt, div};
+ghost use Rattle.theory.specs.Refusals.{degreeLimit, firstOf};
+ghost use Rattle.words.specs.Answers.{Outcome};
+ghost use Rattle.characters.specs.Sound.Laws.{SoundLine};
 ghost use Rattle.characters.specs.Opening.{slipOf, blank, handed, opening};
 ghost use Rattle.characters.specs.Step.{step as stepOf};
-ghost use Rattle.characters.specs.Sound.Laws.{SoundLine};
 ghost use Rattle.characters.specs.Watch.{reads, ratio as ratioOf, watch as watchOf};
 ghost use Rattle.characters.specs.Pages.{pageRows, namedLine, watchRows};
 use super::Handed;
@@ -18,11 +18,17 @@ use super::character_degree;
 use super::evaluation;
 use super::judge;
 use super::lines;
-use super::page as pages;
+use super::page;
 use super::soundness;
 
 // The most words of a page.
 const PAGE_LIMIT: usize = 4096;
+
+// What the judge of a line and a cycle finds: why they are refused, or the class word without the cycle.
+struct Named {
+    refused: u8,
+    class: u32,
+}
 
 // A refused opening.
 fn unopened(number: u8) -> Handed
@@ -53,7 +59,7 @@ pub fn open(shape: u32, class: u32, page: &mut [u64]) -> Handed
         return unopened(6);
     }
     if judged.degree == 0 {
-        pages::clear(page);
+        page::clear(page);
         return Handed {
             refused: 0,
             slip: Slip {
@@ -68,7 +74,7 @@ pub fn open(shape: u32, class: u32, page: &mut [u64]) -> Handed
     if page.len() == 0 {
         return unopened(10);
     }
-    pages::clear(page);
+    page::clear(page);
     page[0] = lines::word(false, shape, class);
     Handed {
         refused: 0,
@@ -93,12 +99,6 @@ fn judge_page(slip: Slip, page: &[u64]) -> u8
         return 0;
     }
     7
-}
-
-// What the judge of a line and a cycle finds: why they are refused, or the class word without the cycle.
-struct Named {
-    refused: u8,
-    class: u32,
 }
 
 // The judge of a line and a cycle that a step names, in the order 6, 7, 8, 9.
@@ -154,6 +154,7 @@ pub fn step(slip: Slip, page: &mut [u64], line: usize, cycle: u64) -> Handed
             slip,
         };
     }
+    // a line of degree 16 at most has 16 hooks at most
     let mut strip = [0u64; 16];
     let hooks = lines::strip(page[line], cycle as u32, named.class, &mut strip);
     let waiting = hooks.count;
@@ -162,7 +163,7 @@ pub fn step(slip: Slip, page: &mut [u64], line: usize, cycle: u64) -> Handed
     if page.len() < after {
         return Handed { refused: 10, slip };
     }
-    pages::exchange(page, line, lines, &strip[..waiting]);
+    page::exchange(page, line, lines, &strip[..waiting]);
     Handed {
         refused: 0,
         slip: next_slip(slip, hooks.settled, after),

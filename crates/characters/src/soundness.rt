@@ -1,5 +1,5 @@
-// Whether slip and page are sound (document 01, "Sound slip and page"): two budgets that fall as the lines are read, and
-// never a sum that grows.
+// Whether slip and page are sound (document 01, "Sound slip and page"): two budgets that fall as the lines are read,
+// and never a sum that grows.
 ghost use mathlib.Core.Path.{_≡_};
 ghost use Prim.Native.Nat.{_≤_};
 ghost use lib.IntN.{natAbs};
@@ -11,7 +11,7 @@ ghost use Rattle.characters.specs.Sound.Budget.{affords as affordsAll};
 ghost use Rattle.characters.specs.Pages.{Tabled, budgetSuffices};
 use super::Slip;
 use super::judge;
-use super::lines as line;
+use super::lines;
 use words::classes::FACTORIALS;
 
 // S(d), the most steps that a line of degree d can take, for the degrees 0 to 16.
@@ -46,8 +46,8 @@ fn size(z: i64) -> u64
     }
 }
 
-// Whether each line is sound, of degree n at most, and both budgets suffice: each takes its d! from the one and its S(d)
-// from the other. The tables are lent, since a constant would be made anew for each line.
+// Whether each line is sound, of degree n at most, and both budgets suffice: each takes its d! from the one and its
+// S(d) from the other. The tables are lent, since a constant would be made anew for each line.
 fn affords(n: u32, value: u64, span: u64, lines: &[u64], factorials: &[u64], spans: &[u64]) -> bool
     requires { ⌜ (n ≤ degreeLimit) × Tabled factorial (now factorials) × Tabled S (now spans) ⌝ }
     ensures { λ r. ⌜ r ≡ affordsAll n value span (now (lines .entry)) ⌝ }
@@ -56,7 +56,7 @@ fn affords(n: u32, value: u64, span: u64, lines: &[u64], factorials: &[u64], spa
     let mut span_left = span;
     let mut i = 0;
     while i < lines.len() {
-        let degree = line::degree(lines[i], n) as usize;
+        let degree = lines::degree(lines[i], n) as usize;
         if degree == 0 {
             return false;
         }
@@ -89,7 +89,7 @@ fn zeros(words: &[u64]) -> bool
     true
 }
 
-// Whether n! suffices for the settled size and S(n) for the steps, both for the lines besides, and all other words are 0.
+// Whether n! suffices for the settled size and S(n) for the steps, both for the lines besides, and other words are 0.
 fn suffices(n: u32, settled: u64, steps: u64, lines: usize, page: &[u64]) -> bool
     requires { ⌜ (n ≤ degreeLimit) × (lines ≤ length (now page)) ⌝ }
     ensures { λ r. ⌜ r ≡ budgetSuffices n settled steps lines (now (page .entry)) ⌝ }

@@ -1,5 +1,5 @@
--- `characters::lines::strip` meets its contract. The hook lines of the marks passed and of the marks left make the strip
--- and the settled sum.
+-- `characters::lines::strip` meets its contract. The hook lines of the marks passed and of the marks left make the
+-- strip and the settled sum.
 use mathlib.Core.Path.{_≡_, sym, _∙_, ap, ap₂}
 use Prim.Native.Nat.{ℕ, _-_, _*_, _%_, _^_}
 use native.Mathlib.Omega.{arith}

@@ -1,6 +1,6 @@
 -- `characters::page::exchange` meets its contract: a strip put behind the lines that are left.
 use borrow.Author.Needs.{needs}
-use Rattle.characters.proofs.Pages.{exchanged}
+use Rattle.characters.proofs.Pages.{out-and-put}
 use Rattle.characters.proofs.page.exchange.Statement.{statement}
 use Rattle.characters.proofs.page.exchange.Tie as tie
 
@@ -19,7 +19,7 @@ same-length c = search needs
 returns : tie.Need-returns
 returns c =
     let start = c .before .before .before .before .before .before .before .before .before .before in
-    cc (exchanged _ _ _ _ (start .pre))
+    cc (out-and-put _ _ _ _ (start .pre))
 
 pub exchange-spec : {M : Type 1} → statement M
 exchange-spec = tie.close (tie.spec take-out-requires sub-put put-requires same-length returns)

@@ -1,5 +1,5 @@
--- `characters::page::take_out` meets its contract: to take the line at i out of the page as it is now is to take the named
--- line out of the page as it was.
+-- `characters::page::take_out` meets its contract: to take the line at i out of the page as it is now is to take the
+-- named line out of the page as it was.
 use mathlib.Core.Path.{_≡_, refl, _∙_}
 use Prim.Native.Nat.{_-_, _<_}
 use native.Mathlib.Omega.{arith}

@@ -19,11 +19,15 @@ judge-page-requires c κs = search needs
 returns : tie.Need-returns
 returns c = page-refuses _ _ _ _ _ (c .before .judge-page .ensures) (c .if1 .taken)
 
-none : (c : tie.Else1) → let a = c .before .before .before .args in firstOf (pageRows degreeLimit (a .slip) (a .page .now)) ≡ 0
+none : (c : tie.Else1)
+    → let a = c .before .before .before .args in
+    firstOf (pageRows degreeLimit (a .slip) (a .page .now)) ≡ 0
 none c = sym (c .before .judge-page .ensures) ∙ c .if1 .left
 
 fair : (c : tie.Else1) → let a = c .before .before .before .args in Sound degreeLimit (a .slip) (a .page .now)
-fair c = let a = c .before .before .before .args in page-fair (a .slip) (a .page .now) (none c) .1
+fair c =
+    let a = c .before .before .before .args in
+    page-fair (a .slip) (a .page .now) (none c) .1
 
 returns-2 : tie.Need-returns-2
 returns-2 c = no-such-line _ _ _ _ (none (c .before .before)) (c .if2 .taken)
@@ -43,7 +47,8 @@ strike-requires : tie.Need-strike-requires
 strike-requires c κs =
     let else2 = c .before .before in
     let a = else2 .before .before .before .before .before .args in
-    rw (c .class .ensures) (class-below _ (fair-line (a .slip) (a .page .now) (fair (else2 .before .before)) (a .line) (else2 .if2 .left)))
+    let sound = fair (else2 .before .before) in
+    rw (c .class .ensures) (class-below _ (fair-line (a .slip) (a .page .now) sound (a .line) (else2 .if2 .left)))
 
 struck : (c : tie.After-strike)
     → let a = c .before .before .before .before .before .before .before .before .args in

@@ -36,8 +36,8 @@ returns-4 c =
     let else3 = c .before in
     let else2 = else3 .before in
     let a = else2 .before .before .before .before .args in
-    line-ignored (a .slip) (a .page .now) (a .kind) (a .line) (clear (else2 .before)) (else2 .if2 .left) (else3 .if3 .left)
-    (c .if4 .taken)
+    line-ignored (a .slip) (a .page .now) (a .kind) (a .line) (clear (else2 .before)) (else2 .if2 .left)
+    (else3 .if3 .left) (c .if4 .taken)
 
 returns-5 : tie.Need-returns-5
 returns-5 c =
@@ -45,8 +45,8 @@ returns-5 c =
     let else3 = else4 .before in
     let else2 = else3 .before in
     let a = else2 .before .before .before .before .args in
-    line-missing (a .slip) (a .page .now) (a .kind) (a .line) (clear (else2 .before)) (else2 .if2 .left) (else3 .if3 .left)
-    (else4 .if4 .left) (c .if5 .taken)
+    line-missing (a .slip) (a .page .now) (a .kind) (a .line) (clear (else2 .before)) (else2 .if2 .left)
+    (else3 .if3 .left) (else4 .if4 .left) (c .if5 .taken)
 
 returns-6 : tie.Need-returns-6
 returns-6 c =
@@ -54,8 +54,8 @@ returns-6 c =
     let else3 = else4 .before in
     let else2 = else3 .before in
     let a = else2 .before .before .before .before .args in
-    line-there (a .slip) (a .page .now) (a .kind) (a .line) (clear (else2 .before)) (else2 .if2 .left) (else3 .if3 .left)
-    (else4 .if4 .left) (c .if5 .left)
+    line-there (a .slip) (a .page .now) (a .kind) (a .line) (clear (else2 .before)) (else2 .if2 .left)
+    (else3 .if3 .left) (else4 .if4 .left) (c .if5 .left)
 
 pub judge-watch-spec : {M : Type 1} → statement M
 judge-watch-spec =

@@ -1,4 +1,4 @@
--- `characters::sessions::open` meets its contract: each return is the first row that applies, or the page with its line.
+-- `characters::sessions::open` meets its contract: each return is the first row that applies, or a page with its line.
 use mathlib.Core.Path.{_∙_, sym}
 use native.Mathlib.Omega.{arith}
 use borrow.Author.Needs.{needs}
@@ -55,7 +55,8 @@ returns-4 c =
     let else2 = else3 .before .before in
     let p = pair (else2 .before) in
     rw (c .unopened3 .ensures)
-    (room-refuses _ _ _ (p .none) (else2 .if2 .left) (λ none. else3 .if3 .left (p .degree ∙ none)) (c .before .if4 .taken))
+    (room-refuses _ _ _ (p .none) (else2 .if2 .left) (λ none. else3 .if3 .left (p .degree ∙ none))
+    (c .before .if4 .taken))
 
 clear-requires-2 : tie.Need-clear-requires-2
 clear-requires-2 c κs = search needs

@@ -7,7 +7,8 @@ use lib.ListN.{replicate}
 use lib.Seq.{length-take-le}
 use Rattle.characters.proofs.Strips.{cycle-short}
 use Rattle.characters.proofs.Steps.{Chosen, named-refuses, chosen-by}
-use Rattle.characters.proofs.Strikes.{strikes, Hooked, hooked, settled-fits, steps-fit, exchanges, no-room, struck}
+use Rattle.characters.proofs.Strikes.{strikes, Hooked, hooked, settled-fits, steps-fit}
+use Rattle.characters.proofs.Strikes.{exchanges, no-room, struck}
 use Rattle.characters.proofs.sessions.step.Statement.{statement}
 use Rattle.characters.proofs.sessions.step.Tie as tie
 
@@ -99,7 +100,8 @@ returns-3 c =
     let else2 = e .before .before .before in
     let h = else2 .before .before in
     let k = chosen (h .before .before .before) in
-    struck _ _ _ _ (k .named) _ _ (hooks h) (k .none) (else2 .if2 .left) _ _ (c .next-slip .ensures) (e .exchange .ensures)
+    struck _ _ _ _ (k .named) _ _ (hooks h) (k .none) (else2 .if2 .left) _ _ (c .next-slip .ensures)
+    (e .exchange .ensures)
 
 pub step-spec : {M : Type 1} → statement M
 step-spec =

@@ -73,9 +73,9 @@ slice-aggregate-sum c = sym (length-take-le _ _ (passed (c .before .before) .fai
 
 sum-requires : tie.Need-sum-requires
 sum-requires c κs =
-    let start = c .before .before .before .before .before in
-    let w = passed (c .before .before) in
-    (waiting-fair (start .args .slip) (start .args .page .now) (w .fair), waiting-fits (start .args .slip) (start .args .page .now) (w .fair))
+    let a = c .before .before .before .before .before .args in
+    let fair = passed (c .before .before) .fair in
+    (waiting-fair (a .slip) (a .page .now) fair, waiting-fits (a .slip) (a .page .now) fair)
 
 returns-2 : tie.Need-returns-2
 unfolding shown

@@ -1,5 +1,5 @@
--- `characters::soundness::affords` meets its contract: what is left of the budgets and of the lines is afforded where the
--- whole is.
+-- `characters::soundness::affords` meets its contract: what is left of the budgets affords what is left of the lines
+-- where the whole affords the whole.
 use mathlib.Core.Path.{_≡_, refl, sym, _∙_}
 use Prim.Native.Nat.{_-_, _≤_}
 use native.Mathlib.Omega.{arith}
@@ -7,7 +7,8 @@ use borrow.Author.Needs.{needs}
 use Rattle.theory.specs.Basics.{length, drop}
 use Rattle.theory.specs.Refusals.{degreeLimit}
 use Rattle.characters.specs.Sound.Budget.{affords}
-use Rattle.characters.proofs.Budgets.{sound-small, tabled-is, not-a-line, too-dear, too-long, afforded-next, afforded-all}
+use Rattle.characters.proofs.Budgets.{sound-small, tabled-is, not-a-line, too-dear, too-long}
+use Rattle.characters.proofs.Budgets.{afforded-next, afforded-all}
 use Rattle.characters.proofs.soundness.affords.Statement.{statement}
 use Rattle.characters.proofs.soundness.affords.Tie as tie
 
@@ -43,13 +44,16 @@ returns : tie.Need-returns Inv-loop μ-loop
 returns c =
     let d = c .before in
     let l = d .before .before .before in
-    sym (not-a-line _ _ _ _ _ (d .before .before .loop-test .taken) _ (d .degree .ensures) (c .if1 .taken)) ∙ l .loop .inv .1
+    sym (not-a-line _ _ _ _ _ (d .before .before .loop-test .taken) _ (d .degree .ensures) (c .if1 .taken))
+    ∙ l .loop .inv .1
 
 mul-factorial : tie.Need-mul-factorial Inv-loop μ-loop
 mul-factorial c = search needs
 
 shared-slice-read-factorial : tie.Need-shared-slice-read-factorial Inv-loop μ-loop
-shared-slice-read-factorial c = omega (arith, small (c .before .before), start (c .before .before .before .before .before) .pre .1 .size)
+shared-slice-read-factorial c =
+    let d = c .before .before in
+    omega (arith, small d, start (d .before .before .before) .pre .1 .size)
 
 returns-2 : tie.Need-returns-2 Inv-loop μ-loop
 returns-2 c =
@@ -64,7 +68,9 @@ mul-most : tie.Need-mul-most Inv-loop μ-loop
 mul-most c = search needs
 
 shared-slice-read-most : tie.Need-shared-slice-read-most Inv-loop μ-loop
-shared-slice-read-most c = omega (arith, small (c .before .before .before .before), start (c .before .before .before .before .before .before .before) .pre .2 .size)
+shared-slice-read-most c =
+    let d = c .before .before .before .before in
+    omega (arith, small d, start (d .before .before .before) .pre .2 .size)
 
 returns-3 : tie.Need-returns-3 Inv-loop μ-loop
 returns-3 c =

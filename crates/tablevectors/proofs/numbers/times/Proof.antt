@@ -1,0 +1,22 @@
+-- `tablevectors::numbers::times` is safe and ends. A byte times a number below 2^56 fits 64 bits.
+use native.Mathlib.Nat.{mul-le-mul}
+use native.Mathlib.Omega.{arith}
+use Prim.Native.Nat.{_≤_}
+use borrow.Author.Needs.{needs}
+use Rattle.tablevectors.proofs.numbers.times.Statement.{statement}
+use Rattle.tablevectors.proofs.numbers.times.Tie as tie
+
+mul-result : tie.Need-mul-result
+mul-result c =
+    let small : c .before .args .product ≤ 72057594037927935 = omega arith in
+    let bytes : c .before .args .factor ≤ 255 = omega arith in
+    omega (arith, mul-le-mul small bytes)
+
+returns : tie.Need-returns
+returns c = search needs
+
+returns-2 : tie.Need-returns-2
+returns-2 c = search needs
+
+pub times-spec : {M : Type 1} → statement M
+times-spec = tie.close (tie.spec mul-result returns returns-2)

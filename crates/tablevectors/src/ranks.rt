@@ -1,0 +1,48 @@
+// The listing: from a rank to a partition, as either word, and back.
+use super::tally::Tally;
+use words::NumberAnswer;
+use words::WordAnswer;
+
+pub struct Ranks {
+    pub shapes: Tally,
+    pub classes: Tally,
+    pub past: Tally,
+}
+
+// Whether a word was given, and its rank is this one.
+fn back(word: WordAnswer, told: NumberAnswer, rank: u32) -> bool {
+    word.refused == 0 && told.refused == 0 && told.number == rank as i64
+}
+
+// Whether a rank is refused so, as a shape and as a class.
+fn refused(degree: u32, rank: u32, number: u8) -> bool {
+    let shape = characters::listing::shape_at(degree, rank);
+    let class = characters::listing::class_at(degree, rank);
+    shape.refused == number && shape.word == 0 && class.refused == number && class.word == 0
+}
+
+pub fn of_degree(found: Ranks, degree: u32, count: u32) -> Ranks {
+    let mut f = found;
+    let mut rank = 0u32;
+    while rank < count {
+        let shape = characters::listing::shape_at(degree, rank);
+        let class = characters::listing::class_at(degree, rank);
+        let of_shape = characters::listing::shape_rank(shape.word);
+        let of_class = characters::listing::class_rank(class.word);
+        f.shapes = f.shapes.add(back(shape, of_shape, rank));
+        f.classes = f.classes.add(back(class, of_class, rank));
+        rank += 1;
+    }
+    f.past = f.past
+        .add(refused(degree, count, 11))
+        .add(refused(degree, 0xFFFF_FFFF, 11));
+    f
+}
+
+// Degrees above 16, with a rank and with none that is in a list.
+pub fn above() -> Tally {
+    Tally::new()
+        .add(refused(17, 0, 12))
+        .add(refused(17, 0xFFFF_FFFF, 12))
+        .add(refused(0xFFFF_FFFF, 0, 12))
+}

@@ -1,0 +1,150 @@
+//! The library's calls, declared as window/zembrusha.h declares them (tests/window/header.py holds one against the
+//! other), and each in a safe function: a value with its refusal number, or what is left of a lent run.
+
+use crate::lent::{lend, Left};
+use crate::model::sessions::Slip;
+
+#[repr(C)]
+#[derive(Clone, Copy)]
+struct Number {
+    refused: u32,
+    number: u64,
+}
+
+#[repr(C)]
+#[derive(Clone, Copy)]
+struct CSlip {
+    shape: u32,
+    class_word: u32,
+    settled: i64,
+    lines: u64,
+    steps: i64,
+}
+
+#[repr(C)]
+#[derive(Clone, Copy)]
+struct Handed {
+    refused: u32,
+    slip: CSlip,
+}
+
+extern "C" {
+    fn zembrusha_character(shape: u32, class: u32) -> i64;
+    fn zembrusha_character_refusal(shape: u32, class: u32) -> u32;
+    fn zembrusha_degree(shape: u32) -> i64;
+    fn zembrusha_degree_refusal(shape: u32) -> u32;
+    fn zembrusha_character_degree(shape: u32) -> i64;
+    fn zembrusha_character_degree_refusal(shape: u32) -> u32;
+    fn zembrusha_conjugate(shape: u32) -> u32;
+    fn zembrusha_conjugate_refusal(shape: u32) -> u32;
+    fn zembrusha_class_sign(class: u32) -> i64;
+    fn zembrusha_class_sign_refusal(class: u32) -> u32;
+    fn zembrusha_class_size(class: u32) -> i64;
+    fn zembrusha_class_size_refusal(class: u32) -> u32;
+    fn zembrusha_class_period(class: u32) -> i64;
+    fn zembrusha_class_period_refusal(class: u32) -> u32;
+    fn zembrusha_shape_word(parts: *const u8, count: usize) -> Number;
+    fn zembrusha_class_word(parts: *const u8, count: usize) -> Number;
+    fn zembrusha_shape_parts(shape: u32, column: *mut u8, length: usize) -> Number;
+    fn zembrusha_class_parts(class: u32, column: *mut u8, length: usize) -> Number;
+    fn zembrusha_column(class: u32, values: *mut i64, length: usize) -> Number;
+    fn zembrusha_open(shape: u32, class: u32, page: *mut u64, words: usize) -> Handed;
+    fn zembrusha_step(slip: CSlip, page: *mut u64, words: usize, line: u64, cycle: u64) -> Handed;
+    fn zembrusha_watch_whole(slip: CSlip, page: *const u64, words: usize, kind: u64, line: u64) -> i64;
+    fn zembrusha_watch_ratio(slip: CSlip, page: *const u64, words: usize, kind: u64, line: u64) -> f64;
+    fn zembrusha_watch_refusal(slip: CSlip, page: *const u64, words: usize, kind: u64, line: u64) -> u32;
+}
+
+/// A value, and the refusal number for the same words.
+pub type Valued<T> = (T, u32);
+
+// SAFETY, for all below: the calls take every number, and a run is lent with its own length.
+
+pub fn character(shape: u32, class: u32) -> Valued<i64> {
+    unsafe { (zembrusha_character(shape, class), zembrusha_character_refusal(shape, class)) }
+}
+
+/// The value alone: where every word is known to be good, it is asked once.
+pub fn character_value(shape: u32, class: u32) -> i64 {
+    unsafe { zembrusha_character(shape, class) }
+}
+
+pub fn degree(shape: u32) -> Valued<i64> {
+    unsafe { (zembrusha_degree(shape), zembrusha_degree_refusal(shape)) }
+}
+
+pub fn character_degree(shape: u32) -> Valued<i64> {
+    unsafe { (zembrusha_character_degree(shape), zembrusha_character_degree_refusal(shape)) }
+}
+
+pub fn conjugate(shape: u32) -> Valued<u32> {
+    unsafe { (zembrusha_conjugate(shape), zembrusha_conjugate_refusal(shape)) }
+}
+
+pub fn class_sign(class: u32) -> Valued<i64> {
+    unsafe { (zembrusha_class_sign(class), zembrusha_class_sign_refusal(class)) }
+}
+
+pub fn class_size(class: u32) -> Valued<i64> {
+    unsafe { (zembrusha_class_size(class), zembrusha_class_size_refusal(class)) }
+}
+
+pub fn class_period(class: u32) -> Valued<i64> {
+    unsafe { (zembrusha_class_period(class), zembrusha_class_period_refusal(class)) }
+}
+
+fn valued(answer: Number) -> Valued<u64> {
+    (answer.number, answer.refused)
+}
+
+pub fn shape_word(parts: &[u8]) -> Left<Valued<u64>, u8> {
+    lend(parts, |pointer, count| valued(unsafe { zembrusha_shape_word(pointer, count) }))
+}
+
+pub fn class_word(parts: &[u8]) -> Left<Valued<u64>, u8> {
+    lend(parts, |pointer, count| valued(unsafe { zembrusha_class_word(pointer, count) }))
+}
+
+pub fn shape_parts(shape: u32, column: &[u8]) -> Left<Valued<u64>, u8> {
+    lend(column, |pointer, length| valued(unsafe { zembrusha_shape_parts(shape, pointer, length) }))
+}
+
+pub fn class_parts(class: u32, column: &[u8]) -> Left<Valued<u64>, u8> {
+    lend(column, |pointer, length| valued(unsafe { zembrusha_class_parts(class, pointer, length) }))
+}
+
+pub fn column(class: u32, values: &[i64]) -> Left<Valued<u64>, i64> {
+    lend(values, |pointer, length| valued(unsafe { zembrusha_column(class, pointer, length) }))
+}
+
+impl From<Slip> for CSlip {
+    fn from(slip: Slip) -> CSlip {
+        let Slip { shape, class, settled, lines, steps } = slip;
+        CSlip { shape, class_word: class, settled, lines, steps }
+    }
+}
+
+fn handed(answer: Handed) -> (u32, Slip) {
+    let CSlip { shape, class_word, settled, lines, steps } = answer.slip;
+    (answer.refused, Slip { shape, class: class_word, settled, lines, steps })
+}
+
+pub fn open(shape: u32, class: u32, page: &[u64]) -> Left<(u32, Slip), u64> {
+    lend(page, |pointer, words| handed(unsafe { zembrusha_open(shape, class, pointer, words) }))
+}
+
+pub fn step(slip: Slip, page: &[u64], line: u64, cycle: u64) -> Left<(u32, Slip), u64> {
+    lend(page, |pointer, words| handed(unsafe { zembrusha_step(slip.into(), pointer, words, line, cycle) }))
+}
+
+pub fn watch_whole(slip: Slip, page: &[u64], kind: u64, line: u64) -> Left<i64, u64> {
+    lend(page, |pointer, words| unsafe { zembrusha_watch_whole(slip.into(), pointer, words, kind, line) })
+}
+
+pub fn watch_ratio(slip: Slip, page: &[u64], kind: u64, line: u64) -> Left<f64, u64> {
+    lend(page, |pointer, words| unsafe { zembrusha_watch_ratio(slip.into(), pointer, words, kind, line) })
+}
+
+pub fn watch_refusal(slip: Slip, page: &[u64], kind: u64, line: u64) -> Left<u32, u64> {
+    lend(page, |pointer, words| unsafe { zembrusha_watch_refusal(slip.into(), pointer, words, kind, line) })
+}

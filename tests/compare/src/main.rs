@@ -1,0 +1,54 @@
+//! compare: holds the library against a model that shares nothing with it. One line to a group; the exit status is 0
+//! only where nothing differs. Every run compares the same; an argument names a group to be compared alone.
+
+mod calls;
+mod groups;
+mod lent;
+mod model;
+mod random;
+mod report;
+
+use model::characters::Characters;
+use report::Group;
+use std::process::ExitCode;
+
+/// The comparisons of a group.
+type Run = fn(&Characters, &mut Group);
+
+const GROUPS: [(&str, Run); 8] = [
+    ("examples", groups::examples::run),
+    ("pairs to degree 10", groups::pairs::to_degree_10),
+    ("pairs of degrees 11 to 16", groups::pairs::of_degrees_11_to_16),
+    ("columns", groups::columns::run),
+    ("part lists", groups::lists::run),
+    ("words", groups::words::run),
+    ("pairs of words", groups::words::run_pairs),
+    ("sessions", groups::sessions::run),
+];
+
+/// Compares the chosen groups side by side, and gives whether nothing differed in any.
+fn compare(chosen: &[(&'static str, Run)]) -> bool {
+    let characters = &Characters::new();
+    std::thread::scope(|scope| {
+        let start = |&(name, run): &(&'static str, Run)| {
+            scope.spawn(move || Group::compared(name, |group| run(characters, group)))
+        };
+        let started: Vec<_> = chosen.iter().map(start).collect();
+        let mut agreed = true;
+        for group in started {
+            agreed &= group.join().is_ok_and(|group| group.close());
+        }
+        agreed
+    })
+}
+
+fn main() -> ExitCode {
+    let named = std::env::args().nth(1);
+    let chosen = GROUPS.into_iter().filter(|(name, _)| named.as_deref().map_or(true, |one| one == *name));
+    let chosen: Vec<(&str, Run)> = chosen.collect();
+    if !chosen.is_empty() && compare(&chosen) {
+        ExitCode::SUCCESS
+    } else {
+        ExitCode::FAILURE
+    }
+}

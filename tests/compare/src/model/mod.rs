@@ -1,0 +1,21 @@
+//! Document 01 once more, by other means than the library's, and with Vec, String and HashMap at will:
+//! - words are read and written as strings of digits;
+//! - characters come from permutation characters, made orthogonal: no hook, no sign rule and no beta-number;
+//! - what a strike leaves comes from the rules of 1954 on lists of rows;
+//! - a session is a Vec of lines.
+//!
+//! A call that is refused is an `Err` with the refusal number.
+
+pub mod characters;
+pub mod partitions;
+pub mod sessions;
+pub mod words;
+
+/// The largest degree.
+pub const DEGREE_LIMIT: u32 = 16;
+
+/// The parts of a partition, longest first.
+pub type Parts = Vec<u8>;
+
+/// What a call gives, or its refusal number.
+pub type Answer<T> = Result<T, u32>;

@@ -1,0 +1,46 @@
+//! The line that a group of comparisons prints.
+
+use std::fmt::Debug;
+
+/// How many differences of a group are shown in full.
+const SHOWN: u64 = 5;
+
+pub struct Group {
+    name: &'static str,
+    compared: u64,
+    differences: u64,
+    notes: Vec<String>,
+}
+
+impl Group {
+    /// A group of this name, with all its comparisons made.
+    pub fn compared(name: &'static str, compare: impl FnOnce(&mut Group)) -> Group {
+        let mut group = Group { name, compared: 0, differences: 0, notes: vec![] };
+        compare(&mut group);
+        group
+    }
+
+    /// Compares what the library answers with what the model does.
+    pub fn same<T: PartialEq + Debug>(&mut self, answer: T, model: T, what: impl FnOnce() -> String) {
+        self.compared += 1;
+        if answer == model {
+            return;
+        }
+        self.differences += 1;
+        if self.differences <= SHOWN {
+            eprintln!("{}: {}: the library says {answer:?}, the model {model:?}", self.name, what());
+        }
+    }
+
+    pub fn note(&mut self, note: String) {
+        self.notes.push(note);
+    }
+
+    /// Prints the group's line, and gives whether nothing differed.
+    pub fn close(self) -> bool {
+        let verdict = if self.differences == 0 { "ok" } else { "FAILED" };
+        let notes: String = self.notes.iter().map(|note| format!(", {note}")).collect();
+        println!("{verdict} compare {}: {} compared, {} differ{notes}", self.name, self.compared, self.differences);
+        self.differences == 0
+    }
+}

@@ -1,0 +1,57 @@
+#!/usr/bin/env python3
+"""garbled.py PROGRAM: feeds the window bytes at random and commands with bytes changed, from fixed seeds. It must read
+to the end, answer by lines of its own forms alone, write nothing to standard error and end with status 0."""
+import random
+import re
+import subprocess
+import sys
+
+ANSWERS = re.compile(rb'''refused\ [0-9]+:\ .*
+    | nothing\ is\ open
+    | \([0-9,]*\)\ on\ \([0-9,]*\):\ settled\ -?[0-9]+,\ steps\ [0-9]+\ of\ at\ most\ [0-9]+
+    | line\ [0-9]+:\ [-+]\ \([0-9,]+\)\ on\ \([0-9,]+\),\ strike\ .*
+    | no\ line\ waits:\ the\ character\ is\ -?[0-9]+
+    | sum\ of\ the\ waiting\ lines:\ -?[0-9]+
+    | settled\ plus\ waiting:\ -?[0-9]+,\ unchanged\ since\ the\ opening
+    | (class|\([0-9,]*\))\ .*
+    | (open|strike|lines|watch|table|help|quit|SHAPE|LINE)\ .*''', re.VERBOSE)
+
+PARTITIONS = ['3,2', '2,2,1', '1,1,1,1,1', '4,1', '5', '0x2C000000', '0x14000000', '2,1', '1', '0x0', '6', '3,2,1']
+
+
+def command(dice):
+    """A command of its form, or nearly."""
+    opening = f'open {dice.choice(PARTITIONS)} {dice.choice(PARTITIONS)}'
+    strike = f'strike {dice.randrange(4)} {dice.randrange(6)}'
+    return dice.choice([opening, strike, strike, strike, 'lines', 'watch', f'table {dice.randrange(7)}', 'help'])
+
+
+def line(dice):
+    """A line of input: a command, a command with a few bytes changed, or any bytes."""
+    text = bytearray(command(dice).encode())
+    kind = dice.randrange(4)
+    if kind == 0:
+        text = bytearray(dice.randbytes(dice.choice([0, 1, 5, 30, 199, 200, 201, 1000])))
+    elif kind == 1:
+        for _ in range(dice.randrange(1, 4)):
+            text[dice.randrange(len(text))] = dice.randrange(256)
+    return bytes(text)
+
+
+def main():
+    program = sys.argv[1]
+    for seed in range(3):
+        dice = random.Random(seed)
+        script = b'\n'.join(line(dice) for _ in range(3000))
+        script = re.sub(rb'(?m)^[ \t\r]*quit[ \t\r]*$', b'', script)
+        run = subprocess.run([program], input=script, capture_output=True, timeout=100)
+        if run.returncode != 0 or run.stderr:
+            sys.exit(f'garbled: seed {seed} gives status {run.returncode}: {run.stderr[-2000:]}')
+        for answer in run.stdout.splitlines():
+            if not ANSWERS.fullmatch(answer):
+                sys.exit(f'garbled: seed {seed} is answered by {answer!r}')
+        if run.stdout.count(b'unchanged') < 100 or run.stdout.count(b'refused') < 1000:
+            sys.exit(f'garbled: seed {seed} hardly tries anything')
+
+
+main()

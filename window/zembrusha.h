@@ -1,0 +1,161 @@
+/* zembrusha.h: characters of the symmetric group, step by step. The calls of libwindow.a.
+ *
+ * Partitions have degree 0 to 16. A shape word packs a partition as a shape, a class word packs it as a class of
+ * permutations; docs/READING.md has the rules. Every call takes every number: what it cannot answer it refuses, with
+ * one of the numbers below. A refused value, word or count is 0, and a refused call writes nothing.
+ *
+ * A lent run is a pointer and then a length in elements. The pointer is good for that many elements and is not NULL,
+ * even where the length is 0; nothing outside the run is read or written. The library keeps no state and allocates
+ * nothing, so calls on different runs may be made at the same time. */
+#ifndef ZEMBRUSHA_H
+#define ZEMBRUSHA_H
+
+#include <stddef.h>
+#include <stdint.h>
+
+/* Why a call is refused; 0 is for none. Where several apply, a call gives the first in its own order. */
+enum zembrusha_refusal {
+    ZEMBRUSHA_GIVEN = 0,             /* not refused */
+    ZEMBRUSHA_BAD_SHAPE = 1,         /* shape word is 2^30 or more */
+    ZEMBRUSHA_SHAPE_TOO_LARGE = 2,   /* shape degree above 16 */
+    ZEMBRUSHA_BAD_CLASS = 3,         /* class word has bit 31 set, or parts that rise; part list with a 0 or a rise */
+    ZEMBRUSHA_CLASS_TOO_LARGE = 4,   /* class degree above 16 */
+    ZEMBRUSHA_DEGREES_DIFFER = 5,    /* the degrees of shape and class differ */
+    ZEMBRUSHA_PAGE_TOO_LONG = 6,     /* page longer than 4,096 words */
+    ZEMBRUSHA_NOT_SOUND = 7,         /* slip and page not sound */
+    ZEMBRUSHA_NO_SUCH_LINE = 8,      /* no such line */
+    ZEMBRUSHA_NO_SUCH_CYCLE = 9,     /* the line's class has no such cycle (0 included) */
+    ZEMBRUSHA_PAGE_FULL = 10,        /* opening or step would hold more lines than the page has words */
+    ZEMBRUSHA_NO_SUCH_RANK = 11,     /* rank not in the list */
+    ZEMBRUSHA_DEGREE_TOO_LARGE = 12, /* listing or table degree above 16 */
+    ZEMBRUSHA_BAD_INPUT = 13,        /* program input not of its form */
+    ZEMBRUSHA_COLUMN_TOO_SHORT = 14, /* column shorter than the list, or than the parts to be written */
+    ZEMBRUSHA_NO_SUCH_KIND = 15      /* watch kind not 1 to 5 */
+};
+
+/* The kinds of watches. */
+enum zembrusha_kind {
+    ZEMBRUSHA_LINE_CHARACTER = 1, /* whole: a line's signed character */
+    ZEMBRUSHA_LINE_RATIO = 2,     /* ratio: that character divided by the character degree of the line's shape */
+    ZEMBRUSHA_SETTLED = 3,        /* whole: the settled sum */
+    ZEMBRUSHA_WAITING = 4,        /* whole: the sum of all signed waiting characters */
+    ZEMBRUSHA_STEPS = 5           /* whole: the steps so far */
+};
+
+/* The largest degree, the longest page, and how many partitions the largest degree has (the longest column). */
+enum zembrusha_limit {
+    ZEMBRUSHA_DEGREE_LIMIT = 16,
+    ZEMBRUSHA_PAGE_LIMIT = 4096,
+    ZEMBRUSHA_LONGEST_COLUMN = 231
+};
+
+/* A word or a count, with the refusal number in front; the number is 0 when refused. */
+struct zembrusha_number {
+    uint32_t refused;
+    uint64_t number;
+};
+
+/* A session's slip: the shape and the class asked for, the settled sum, the number of waiting lines, the steps. */
+struct zembrusha_slip {
+    uint32_t shape;
+    uint32_t class_word;
+    int64_t settled;
+    uint64_t lines;
+    int64_t steps;
+};
+
+/* A slip that is handed back, with the refusal number in front. */
+struct zembrusha_handed {
+    uint32_t refused;
+    struct zembrusha_slip slip;
+};
+
+/* ---- One shape and one class. Each value has beside it the refusal number for the same words. */
+
+/* The character of a shape on a class. Refuses 1, 3, 2, 4, 5. */
+int64_t zembrusha_character(uint32_t shape, uint32_t class);
+
+/* Why zembrusha_character refuses these words, or 0. */
+uint32_t zembrusha_character_refusal(uint32_t shape, uint32_t class);
+
+/* The degree n of a shape: the sum of its rows. Refuses 1, 2. */
+int64_t zembrusha_degree(uint32_t shape);
+
+/* Why zembrusha_degree refuses this word, or 0. */
+uint32_t zembrusha_degree_refusal(uint32_t shape);
+
+/* The character degree of a shape: its character on (1^n). Refuses 1, 2. */
+int64_t zembrusha_character_degree(uint32_t shape);
+
+/* Why zembrusha_character_degree refuses this word, or 0. */
+uint32_t zembrusha_character_degree_refusal(uint32_t shape);
+
+/* The word of the conjugate shape, rows and columns exchanged. Refuses 1, 2. */
+uint32_t zembrusha_conjugate(uint32_t shape);
+
+/* Why zembrusha_conjugate refuses this word, or 0. */
+uint32_t zembrusha_conjugate_refusal(uint32_t shape);
+
+/* The sign of a class, 1 or -1. Refuses 3, 4. */
+int64_t zembrusha_class_sign(uint32_t class);
+
+/* Why zembrusha_class_sign refuses this word, or 0. */
+uint32_t zembrusha_class_sign_refusal(uint32_t class);
+
+/* The number of permutations in a class. Refuses 3, 4. */
+int64_t zembrusha_class_size(uint32_t class);
+
+/* Why zembrusha_class_size refuses this word, or 0. */
+uint32_t zembrusha_class_size_refusal(uint32_t class);
+
+/* The period of a class: the product of its different part lengths. Refuses 3, 4. */
+int64_t zembrusha_class_period(uint32_t class);
+
+/* Why zembrusha_class_period refuses this word, or 0. */
+uint32_t zembrusha_class_period_refusal(uint32_t class);
+
+/* ---- With a lent run. */
+
+/* The shape word of a part list, longest part first. Refuses 3, 2. */
+struct zembrusha_number zembrusha_shape_word(const uint8_t *parts, size_t count);
+
+/* The class word of a part list, longest part first. Refuses 3, 4. */
+struct zembrusha_number zembrusha_class_word(const uint8_t *parts, size_t count);
+
+/* The rows of a shape to the front of the column, and their count; the rest of the column stays. Refuses 1, 2, 14. */
+struct zembrusha_number zembrusha_shape_parts(uint32_t shape, uint8_t *column, size_t length);
+
+/* The parts of a class to the front of the column, and their count; the rest of the column stays. Refuses 3, 4, 14. */
+struct zembrusha_number zembrusha_class_parts(uint32_t class, uint8_t *column, size_t length);
+
+/* The characters of all shapes of the class's degree on the class, in decreasing lexicographic order of the shapes, to
+ * the front of the values, and their count; the rest of the values stays. Refuses 3, 4, 14. */
+struct zembrusha_number zembrusha_column(uint32_t class, int64_t *values, size_t length);
+
+/* ---- Sessions, on a page of 0 to 4,096 words that the caller lends. A waiting line is one word: bit 63 is set for a
+ * minus sign, bits 62 to 32 are the shape word, bits 31 to 0 the class word. Slip and page are handed on together. */
+
+/* Opens a session: one line on the page, zeros after it (at degree 0 no line, and settled is 1). Refuses 1, 3, 2, 4, 5,
+ * 6, 10, with a slip of zeros. */
+struct zembrusha_handed zembrusha_open(uint32_t shape, uint32_t class, uint64_t *page, size_t words);
+
+/* Strikes a cycle from a line, numbered from 0: the line is taken out, later lines move down, and one line for each
+ * hook of that length is put at the end; a hook that leaves the empty shape adds its sign to settled instead. Refuses
+ * 6, 7, 8, 9, 10, with the slip that was given. */
+struct zembrusha_handed zembrusha_step(
+    struct zembrusha_slip slip, uint64_t *page, size_t words, uint64_t line, uint64_t cycle);
+
+/* What a watch of kind 1, 3, 4 or 5 shows; 0 for kind 2 and where it is refused. Kinds 3 to 5 ignore the line. Refuses
+ * 6, 7, 15, 8. */
+int64_t zembrusha_watch_whole(
+    struct zembrusha_slip slip, const uint64_t *page, size_t words, uint64_t kind, uint64_t line);
+
+/* What a watch of kind 2 shows; 0 for every other kind and where it is refused. Refuses 6, 7, 15, 8. */
+double zembrusha_watch_ratio(
+    struct zembrusha_slip slip, const uint64_t *page, size_t words, uint64_t kind, uint64_t line);
+
+/* Why a watch is refused, or 0. */
+uint32_t zembrusha_watch_refusal(
+    struct zembrusha_slip slip, const uint64_t *page, size_t words, uint64_t kind, uint64_t line);
+
+#endif

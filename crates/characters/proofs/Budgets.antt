@@ -1,5 +1,6 @@
 -- Two budgets that fall as the lines of a page are read: what one line does to them, a loop over words that are 0, the
 -- table of S, and soundness test by test.
+--   Sized n x d   the line x is sound and has the degree d
 use mathlib.Core.Path.{_≡_, refl, sym, _∙_}
 use Prim.Native.Nat.{_≤_, _<_}
 use native.Mathlib.Numerals.{add-one}
@@ -23,33 +24,30 @@ use Rattle.characters.specs.Lines.{soundDegree}
 use Rattle.characters.specs.Pages.{Tabled, budgetSuffices}
 
 -- ---- a sound degree
+by-soundness : (P : Type 0) (n x d : ℕ) → d ≡ soundDegree n x → (soundLine n x ≡ true → d ≡ lineDegree x → P)
+    → (soundLine n x ≡ false → d ≡ 0 → P) → P
+unfolding soundDegree
+by-soundness P n x d e good bad = go (soundLine n x) refl e
+  where
+    go : (b : Bool) → soundLine n x ≡ b → d ≡ cond b (lineDegree x) 0 → P
+    go true t q = good t q
+    go false t q = bad t q
+
 record Sized (n x d : ℕ) : Type 0 where
   sound : soundLine n x ≡ true
   degree : d ≡ lineDegree x
 
-sized : (n x d : ℕ) → d ≡ soundDegree n x → (d ≡ 0 → ⊥) → Sized n x d
-unfolding soundDegree
-sized n x d e some = go (soundLine n x) refl e
-  where
-    go : (b : Bool) → soundLine n x ≡ b → d ≡ cond b (lineDegree x) 0 → Sized n x d
-    go true t q = record { sound = t; degree = q }
-    go false t q = absurd (some q)
+module _ (n x d : ℕ) (e : d ≡ soundDegree n x) where
+  sized : (d ≡ 0 → ⊥) → Sized n x d
+  sized some = by-soundness (Sized n x d) n x d e (λ t q. record { sound = t; degree = q }) (λ t q. absurd (some q))
 
-unsound : (n x d : ℕ) → d ≡ soundDegree n x → d ≡ 0 → soundLine n x ≡ false
-unfolding soundDegree
-unsound n x d e none = go (soundLine n x) refl e
-  where
-    go : (b : Bool) → soundLine n x ≡ b → d ≡ cond b (lineDegree x) 0 → soundLine n x ≡ false
-    go true t q = absurd (omega (arith, sound-line n x t .some))
-    go false t q = t
+  unsound : d ≡ 0 → soundLine n x ≡ false
+  unsound none =
+      by-soundness (soundLine n x ≡ false) n x d e (λ t q. absurd (omega (arith, sound-line n x t .some))) (λ t q. t)
 
-pub sound-small : (n x d : ℕ) → n ≤ degreeLimit → d ≡ soundDegree n x → d ≤ degreeLimit
-unfolding soundDegree
-sound-small n x d small e = go (soundLine n x) refl e
-  where
-    go : (b : Bool) → soundLine n x ≡ b → d ≡ cond b (lineDegree x) 0 → d ≤ degreeLimit
-    go true t q = omega (arith, sound-line n x t .within)
-    go false t q = omega arith
+  pub sound-small : n ≤ degreeLimit → d ≤ degreeLimit
+  sound-small small =
+      by-soundness (d ≤ degreeLimit) n x d e (λ t q. omega (arith, sound-line n x t .within)) (λ t q. omega arith)
 
 pub tabled-is : {f : ℕ → ℕ} {table : List ℕ} → Tabled f table → (d : ℕ) → d ≤ degreeLimit → getD table d 0 ≡ f d
 tabled-is {f} {table} t d small = tabled-at f table d (t .rule) (omega (arith, t .size))

@@ -20,7 +20,7 @@ use Rattle.characters.specs.declared.lines.Struck.{Struck}
 use Rattle.characters.specs.declared.sessions.Named as judgement
 use Rattle.characters.specs.Line.{lineClass}
 use Rattle.characters.specs.Sound.{waiting, sound}
-use Rattle.characters.specs.Sound.Laws.{SoundLine, asked, Sound, is-sound}
+use Rattle.characters.specs.Sound.Laws.{SoundLine, line-wider, asked, Sound, is-sound}
 use Rattle.characters.specs.Sound.Bounds.{asked-within}
 use Rattle.characters.specs.Opening.{handed}
 use Rattle.characters.specs.Step.{nextLines, stepRows, step}
@@ -49,16 +49,9 @@ module _ (slip : Slip) (page : List ℕ) where
   pub fair-line : Sound degreeLimit slip page → (line : ℕ) → line < slip .lines
       → SoundLine degreeLimit (getD page line 0)
   fair-line fair line there =
-      let s = each-at (SoundLine (asked slip)) (waiting slip page) 0 line (fair .lines)
-      (omega (arith, length-take-le (slip .lines) page (fair .fit))) in
-      let t = rw (getD-take (slip .lines) page line 0 there) at s in
-      record {
-        shape = t .shape;
-        class = t .class;
-        degrees = t .degrees;
-        some = t .some;
-        within = omega (arith, t .within, asked-within degreeLimit slip page fair);
-      }
+      line-wider (asked-within degreeLimit slip page fair)
+      (rw (getD-take (slip .lines) page line 0 there) at (each-at (SoundLine (asked slip)) (waiting slip page) 0 line
+      (fair .lines) (omega (arith, length-take-le (slip .lines) page (fair .fit)))))
 
 -- ---- line and cycle
 module _ (slip : Slip) (page : List ℕ) (line cycle : ℕ) where

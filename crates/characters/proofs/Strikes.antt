@@ -8,8 +8,9 @@ use borrow.Author.Tests.{lt-ltb, le-ltb}
 use lib.IntN.{+ℤ-idl}
 use lib.ListN.{length-append}
 use lib.Seq.{take-at}
-use Rattle.theory.specs.Basics.{Bool, true, false, not, cond, List, [], _∷_, _++_, length, getD, take, ℕ, suc}
-use Rattle.theory.specs.Basics.{_+_, _-_, _^_, ℤ, pos, _+ℤ_, natAbs, keep, sum}
+use Rattle.theory.specs.Basics.{not, List, _++_, length, getD, take, ℕ}
+use Rattle.theory.specs.Basics.{_+_, _-_, _^_, ℤ, pos, _+ℤ_, natAbs, sum}
+use Rattle.theory.specs.Basics.Keep.{length-keep}
 use Rattle.theory.specs.Partition.{without}
 use Rattle.theory.specs.ClassWord.{classWord, classOf}
 use Rattle.theory.specs.Bounds.{S}
@@ -32,15 +33,6 @@ use Rattle.characters.specs.Lines.{Strikes, stripped}
 use Rattle.characters.specs.Pages.{Exchanges, exchanged, namedRows}
 use Rattle.characters.proofs.Signed.{carried, carried-is}
 use Rattle.characters.proofs.Steps.{fair-line, lastRow, step-refused}
-
-length-keep : {A : Type 0} (test : A → Bool) (xs : List A) → length (keep test xs) ≤ length xs
-length-keep test [] = omega arith
-length-keep test (x ∷ xs) = go (test x) (length-keep test xs)
-  where
-    go : (b : Bool) → length (keep test xs) ≤ length xs
-        → length (cond b (x ∷ keep test xs) (keep test xs)) ≤ suc (length xs)
-    go true less = omega arith
-    go false less = omega arith
 
 module _ (slip : Slip) (page : List ℕ) (line cycle : ℕ) (n : Named degreeLimit slip page line cycle) where
   abbrev chosen : ℕ

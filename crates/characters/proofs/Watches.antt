@@ -24,7 +24,7 @@ use Rattle.characters.specs.Calls.{shapeCharacterDegree}
 use Rattle.characters.specs.Line.{lineShape, lineDegree, signedCharacter}
 use Rattle.characters.specs.Line.Laws.{over}
 use Rattle.characters.specs.Sound.{waiting}
-use Rattle.characters.specs.Sound.Laws.{SoundLine, asked, Sound}
+use Rattle.characters.specs.Sound.Laws.{SoundLine, line-wider, asked, Sound}
 use Rattle.characters.specs.Sound.Bounds.{asked-within, line-bounded, lines-bounded}
 use Rattle.characters.specs.Watch.{Value, none, ratio, shown, watch}
 use Rattle.characters.specs.Watch.Ratios.{Carried, line-carried}
@@ -121,16 +121,8 @@ last-kind kind some within not-1 not-2 not-3 not-4 = omega arith
 -- ---- what is shown of slip and page
 module _ (slip : Slip) (page : List ℕ) (fair : Sound degreeLimit slip page) where
   pub waiting-fair : Each (SoundLine degreeLimit) (waiting slip page)
-  waiting-fair = each-same (SoundLine (asked slip)) (SoundLine degreeLimit) (waiting slip page) wider (fair .lines)
-    where
-      wider : (x : ℕ) → SoundLine (asked slip) x → SoundLine degreeLimit x
-      wider x s = record {
-        shape = s .shape;
-        class = s .class;
-        degrees = s .degrees;
-        some = s .some;
-        within = omega (arith, s .within, asked-within degreeLimit slip page fair);
-      }
+  waiting-fair = each-same (SoundLine (asked slip)) (SoundLine degreeLimit) (waiting slip page)
+      (λ x. line-wider (asked-within degreeLimit slip page fair)) (fair .lines)
 
   pub waiting-fits : over factorial (waiting slip page) < 2 ^ 63
   waiting-fits = omega (

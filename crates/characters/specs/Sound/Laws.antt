@@ -4,6 +4,7 @@
 --   asked slip              the degree of the shape that the slip asks for: the n of document 01
 use mathlib.Core.Path.{_≡_}
 use Prim.Native.Nat.{_≤_}
+use native.Mathlib.Nat.{le-trans}
 use lib.Signed.{nonNeg}
 use borrow.Author.Tests.{leb-true, eqb-true, le-leb, eq-eqb}
 use Rattle.theory.specs.Basics.{true, List, length, drop, ℕ, _+_, natAbs, _=?_, _≤?_, every}
@@ -51,6 +52,15 @@ line-sound {n} {x} s = rw (
   le-leb 1 (lineDegree x) (s .some),
   le-leb (lineDegree x) n (s .within),
 )
+
+pub line-wider : {m n x : ℕ} → m ≤ n → SoundLine m x → SoundLine n x
+line-wider l s = record {
+  shape = s .shape;
+  class = s .class;
+  degrees = s .degrees;
+  some = s .some;
+  within = le-trans (s .within) l;
+}
 
 -- ---- words that are 0
 pub all-zero : (xs : List ℕ) → every (_=? 0) xs ≡ true → Each (λ x. x ≡ 0) xs

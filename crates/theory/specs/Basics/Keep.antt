@@ -1,9 +1,10 @@
 -- What holds of each element, what is kept, and totals: of parts of a list, and of the elements that pass a test.
 use mathlib.Core.Path.{_≡_, refl, sym, ap, _∙_}
 use mathlib.Core.Bool.{false≢true}
+use Prim.Native.Nat.{_≤_}
 use native.Mathlib.Omega.{arith}
 use lib.IntN.{+ℤ-assoc}
-use Rattle.theory.specs.Basics.{Bool, true, false, not, cond, List, [], _∷_, _++_, map, ℕ, _+_}
+use Rattle.theory.specs.Basics.{Bool, true, false, not, cond, List, [], _∷_, _++_, map, length, ℕ, suc, _+_}
 use Rattle.theory.specs.Basics.{ℤ, _+ℤ_, keep, every, total, sum}
 use Rattle.theory.specs.Basics.Laws.{both, Each}
 use Rattle.theory.specs.Character.Integers.{swap-front}
@@ -49,6 +50,15 @@ module _ {A : Type 0} where
         go : (b : Bool) → test x ≡ b → Each Kept (keep test xs) → Each Kept (cond b (x ∷ keep test xs) (keep test xs))
         go true t r = ((e .0, t), r)
         go false t r = r
+
+    pub length-keep : (xs : List A) → length (keep test xs) ≤ length xs
+    length-keep [] = omega arith
+    length-keep (x ∷ xs) = go (test x) (length-keep xs)
+      where
+        go : (b : Bool) → length (keep test xs) ≤ length xs
+            → length (cond b (x ∷ keep test xs) (keep test xs)) ≤ suc (length xs)
+        go true less = omega arith
+        go false less = omega arith
 
     pub sum-keep : (f : A → ℤ) (xs : List A) → sum f xs ≡ sum f (keep test xs) +ℤ sum f (keep (λ x. not (test x)) xs)
     sum-keep f [] = refl

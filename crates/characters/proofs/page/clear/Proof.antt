@@ -12,7 +12,8 @@ use Rattle.characters.proofs.page.clear.Statement.{statement}
 use Rattle.characters.proofs.page.clear.Tie as tie
 
 abbrev Inv-loop : tie.InvT-loop
-Inv-loop page₀ at₀ page at = (at ≤ length page₀) × (page ≡ replicate at 0 ++ drop at page₀) × (length page ≡ length page₀)
+Inv-loop page₀ at₀ page at =
+    (at ≤ length page₀) × (page ≡ replicate at 0 ++ drop at page₀) × (length page ≡ length page₀)
 
 abbrev μ-loop : tie.MeasureT-loop
 μ-loop page₀ at₀ page at = length page₀ - at

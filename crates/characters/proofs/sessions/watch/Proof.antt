@@ -110,10 +110,10 @@ returns-5 c =
 returns-6 : tie.Need-returns-6
 unfolding shown
 returns-6 c =
-    let keys = c .before in
-    let w = passed (keys .before) in
-    let steps : SFits w64 (keys .before .before .before .before .args .slip .steps) = search needs in
-    let rest = keys .match .rest in
+    let others = c .before in
+    let w = passed (others .before) in
+    let steps : SFits w64 (others .before .before .before .before .args .slip .steps) = search needs in
+    let rest = others .match .rest in
     let fifth = last-kind _ (w .some) (w .within) (rest .0 .0 .0 .1) (rest .0 .0 .1) (rest .0 .1) (rest .1) in
     shows-at _ _ _ _ w 4 fifth _ (ap whole (toZ-ofZ steps))
 

@@ -23,7 +23,7 @@ abbrev start : tie.At-loop Inv-loop μ-loop → tie.Start Inv-loop μ-loop
 start c = c .before .before .before .before
 
 small : (c : tie.After-degree Inv-loop μ-loop) → c .degree .result ≤ degreeLimit
-small c = sound-small _ _ _ (start (c .before .before .before) .pre .0) (c .degree .ensures)
+small c = sound-small _ _ _ (c .degree .ensures) (start (c .before .before .before) .pre .0)
 
 loop-holds : tie.Need-loop-holds Inv-loop μ-loop
 loop-holds c = (omega arith, refl)

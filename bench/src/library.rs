@@ -5,7 +5,25 @@ pub struct Number {
     pub number: u64,
 }
 
+#[repr(C)]
+#[derive(Clone, Copy)]
+pub struct Slip {
+    pub shape: u32,
+    pub class_word: u32,
+    pub settled: i64,
+    pub lines: u64,
+    pub steps: i64,
+}
+
+#[repr(C)]
+pub struct Handed {
+    pub refused: u32,
+    pub slip: Slip,
+}
+
 extern "C" {
+    fn zembrusha_step(slip: Slip, page: *mut u64, words: usize, line: u64, cycle: u64) -> Handed;
+    fn zembrusha_watch_whole(slip: Slip, page: *const u64, words: usize, kind: u64, line: u64) -> i64;
     fn zembrusha_column(class: u32, values: *mut i64, length: usize) -> Number;
     fn zembrusha_character(shape: u32, class: u32) -> i64;
 }
@@ -16,4 +34,13 @@ pub fn column(class: u32, values: &mut [i64]) -> usize {
 
 pub fn character(shape: u32, class: u32) -> i64 {
     unsafe { zembrusha_character(shape, class) }
+}
+
+pub fn step(slip: Slip, page: &mut [u64], line: u64, cycle: u64) -> (u32, Slip) {
+    let handed = unsafe { zembrusha_step(slip, page.as_mut_ptr(), page.len(), line, cycle) };
+    (handed.refused, handed.slip)
+}
+
+pub fn watch_whole(slip: Slip, page: &[u64], kind: u64, line: u64) -> i64 {
+    unsafe { zembrusha_watch_whole(slip, page.as_ptr(), page.len(), kind, line) }
 }

@@ -1,5 +1,6 @@
 // Times of the library beside its peers, in one run on one machine. `bench/run` builds and starts it.
 mod library;
+mod sessions;
 mod twin;
 
 use std::process::Command;
@@ -119,4 +120,5 @@ fn main() {
     let symmetrica = peer(&format!("{peers}/../target/symmetrica"), &[]);
     whole_tables(&gap, &symmetrica);
     single_characters(&symmetrica);
+    sessions::times(|runs, work| best(runs, work), shape_word, class_word);
 }

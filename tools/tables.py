@@ -1,6 +1,7 @@
 #!/usr/bin/env python3
-"""tables.py: writes the tables of the listing, crates/characters/src/tables.rt and specs/Places.antt. Run it in the
-repository, then `rt fmt`. What it writes is not believed: lookup.rt says the rule of each table, and is proved."""
+"""tables.py: writes the tables of the listing, crates/listing/src/tables.rt, and the places of shape words,
+crates/characters/src/tables.rt and specs/Places.antt. Run it in the repository, then `rt fmt`. What it writes is not
+believed: the functions that read a table say its rule, and are proved."""
 
 LIMIT = 16
 
@@ -37,7 +38,7 @@ def displacements(words):
 listing = [list(partitions(n, n)) for n in range(LIMIT + 1)]
 counts = [len(shapes) for shapes in listing]
 words = [shape_word(rows) for shapes in listing for rows in shapes]
-starts = [sum(counts[:n]) for n in range(LIMIT + 2)]
+starts = [sum(counts[:n]) for n in range(LIMIT + 1)]
 places = displacements(words)
 
 
@@ -46,11 +47,14 @@ def table(comment, name, kind, entries):
     return '\n// %s\npub const %s: [%s; %d] = [\n%s];\n' % (comment, name, kind, len(entries), lines)
 
 
-with open('crates/characters/src/tables.rt', 'w') as file:
-    file.write('// The tables of the listing. Made by tools/tables.py; lookup.rt says what each has, and is proved.\n')
+with open('crates/listing/src/tables.rt', 'w') as file:
+    file.write('// The tables of the listing. Made by tools/tables.py; lib.rt says what each has, and is proved.\n')
     file.write(table('How many partitions each degree has.', 'COUNTS', 'u32', counts))
-    file.write(table('Where each degree starts in WORDS, and where the last ends.', 'STARTS', 'u32', starts))
+    file.write(table('Where each degree starts in WORDS.', 'STARTS', 'usize', starts))
     file.write(table('The shape words, degree by degree, each degree in listing order.', 'WORDS', 'u32', words))
+
+with open('crates/characters/src/tables.rt', 'w') as file:
+    file.write('// Made by tools/tables.py; lookup.rt says what the table has, and is proved.\n')
     file.write(table('A shape word t has the place PLACES[t >> 22] + (t >> 14) % 256: no two have one.', 'PLACES',
                      'u16', places))
 

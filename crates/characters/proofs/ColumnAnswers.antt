@@ -20,7 +20,7 @@ use Rattle.words.proofs.Callers.{FrontGiven, number-given-by}
 use Rattle.characters.specs.Calls.{columnInto}
 use Rattle.characters.specs.Columns.{atFront, Cycles}
 use Rattle.characters.proofs.Judging.{refused-is}
-use Rattle.characters.proofs.Ranks.{blank, class-refusal, parts-of-class}
+use Rattle.listing.proofs.Ranks.{blank, class-refusal, parts-of-class}
 use Rattle.characters.proofs.Signed.{carried, carried-is}
 
 module _ (w : ℕ) (a : NumberAnswer) (e : a ≡ classDegree degreeLimit w) where

@@ -18,7 +18,7 @@ use Rattle.theory.specs.Listing.Columns.{column-length, column-at}
 use Rattle.theory.specs.Listing.Ranks.{at-rank}
 use Rattle.theory.specs.Listing.Words.{start, start-within, word-at, word-ranked}
 use Rattle.theory.specs.Refusals.{degreeLimit}
-use Rattle.characters.specs.Tables.{shapeWords}
+use Rattle.listing.specs.Calls.{shapeWords}
 use Rattle.characters.specs.Columns.{entry, entries, Cycles, Kept}
 use Rattle.characters.proofs.Lifts.{ranked-fits}
 

@@ -16,5 +16,4 @@ pub mod Places
 pub mod Lifts
 pub mod Entries
 pub mod ColumnAnswers
-pub mod Ranks
 pub mod Unique

@@ -29,9 +29,11 @@ use Rattle.theory.specs.Refusals.{degreeLimit}
 use Rattle.theory.specs.Refusals.Laws.{Within}
 use Rattle.words.proofs.PartLists.{next-left, degree-left}
 use Rattle.characters.specs.Evaluation.{Fit, hookSum}
-use Rattle.characters.specs.Tables.{shapeWords, placeOf, placeCount}
+use Rattle.listing.specs.Calls.{shapeWords}
+use Rattle.characters.specs.Tables.{placeOf, placeCount}
 use Rattle.characters.specs.Columns.{entry, Table, Cycles, Kept}
-use Rattle.characters.proofs.Places.{place-below, places-apart, stands}
+use Rattle.listing.proofs.Indexes.{stands}
+use Rattle.characters.proofs.Places.{place-below, places-apart}
 use Rattle.characters.proofs.Signed.{carried}
 use Rattle.characters.proofs.HookSums.{most}
 use Rattle.characters.proofs.Walks.{character-bounded, character-carried}

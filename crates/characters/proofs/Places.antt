@@ -1,5 +1,4 @@
--- Laws of the tables, by computed tests where they speak of the numbers themselves; those of any such list of words are
--- theory's (Listing/Words).
+-- Laws of the places, by computed tests where they speak of the numbers themselves.
 use mathlib.Core.Path.{_≡_, refl, sym, _∙_, ap}
 use Prim.Native.Nat.{_≤_, _<_}
 use native.Mathlib.Decide.{ℕ-discrete}
@@ -17,7 +16,9 @@ use Rattle.theory.specs.Listing.Words.{index, Indexed, indexed}
 use Rattle.theory.specs.Refusals.{degreeLimit}
 use Rattle.theory.specs.Refusals.Laws.{Within}
 use Rattle.characters.specs.Places.{places}
-use Rattle.characters.specs.Tables.{shapeWords, placeOf, placeCount}
+use Rattle.listing.specs.Calls.{shapeWords}
+use Rattle.listing.proofs.Indexes.{stands}
+use Rattle.characters.specs.Tables.{placeOf, placeCount}
 
 -- ---- places
 pub places-length : length places ≡ 256
@@ -33,36 +34,6 @@ unfolding placeOf
 place-below t h =
     let low = every-at (_≤? 864) places 0 (t / 2 ^ 22) low-places (omega (arith, places-length)) in
     omega (arith, leb-true (getD places (t / 2 ^ 22) 0) 864 low)
-
--- ---- indexes
-pub shapeWords-length : length shapeWords ≡ 915
-unfolding wordsBelow listing partitions
-shapeWords-length = refl
-
-pub index-below : (n i : ℕ) → n ≤ degreeLimit → i < length (listing n) → start n + i < 915
-index-below n i h l = omega (arith, start-within (suc degreeLimit) n i (omega arith) l, shapeWords-length)
-
-pub stands : (w : ℕ) → Within degreeLimit w → Indexed (suc degreeLimit) w
-stands w h = indexed (suc degreeLimit) w (h .good) (omega arith)
-
--- the words of a degree up to one of them: it is found at its rank and only there
-module _ (w i : ℕ) (h : Within degreeLimit w) (l : i ≤ rank (shapeOf w)) where
-  pub rank-inside : start (degree (shapeOf w)) + i < 915
-  rank-inside = omega (arith, stands w h .within, shapeWords-length)
-
-  pub rank-found : getD shapeWords (start (degree (shapeOf w)) + i) 0 ≡ w → rank (shapeOf w) ≡ i
-  rank-found e =
-      let n = degree (shapeOf w) in
-      let s = stands w h in
-      let inside : i < length (listing n) = omega (arith, start-next n, s .in-degree) in
-      let at = word-at (suc degreeLimit) n i (omega (arith, h .small)) inside in
-      rw (sym at ∙ e) at (word-ranked n i (omega (arith, h .small)) inside) .ranked
-
-  pub rank-ahead : (getD shapeWords (start (degree (shapeOf w)) + i) 0 ≡ w → ⊥) → i < rank (shapeOf w)
-  rank-ahead n = elim (ℕ-discrete i (rank (shapeOf w))) [
-    | yes e ↦ absurd (n (ap (λ (k : ℕ). getD shapeWords (start (degree (shapeOf w)) + k) 0) e ∙ stands w h .at))
-    | no f ↦ omega arith
-  ]
 
 -- ---- no two shape words have one place: a number tells the index of each from its place
 -- the words from index i on, each index as ten binary digits at the word's place

@@ -9,12 +9,21 @@ ghost use Rattle.theory.specs.Partition.{degree as degreeOf};
 ghost use Rattle.theory.specs.Listing.{listing, column};
 ghost use Rattle.theory.specs.Refusals.{degreeLimit};
 ghost use Rattle.characters.specs.Places.{places as placeTable};
-ghost use Rattle.characters.specs.Tables.{shapeWords, placeCount};
+ghost use Rattle.listing.specs.Calls.{shapeWords};
+ghost use Rattle.characters.specs.Tables.{placeCount};
 ghost use Rattle.characters.specs.Evaluation.{hookSum};
 ghost use Rattle.characters.specs.Columns.{entry, entries, atFront, Table, Cycles, Kept};
 use super::evaluation;
 use super::hooks;
 use super::lookup;
+
+// How many partitions a degree has.
+pub fn count(degree: u32) -> usize
+    requires { ⌜ degree ≤ degreeLimit ⌝ }
+    ensures { λ r. ⌜ r ≡ length (listing degree) ⌝ }
+{
+    listing::start(degree + 1) - listing::start(degree)
+}
 
 // What a table has for a shape word.
 fn look(table: &[i64], places: &[u16], word: u32) -> i64
@@ -49,8 +58,8 @@ fn lift(table: &mut [i64], words: &[u32], places: &[u16], cycles: &[u8], i: usiz
     ensures { λ _. ⌜ Kept (now (table .exit)) (drop i (now (cycles .entry))) ⌝ }
 {
     let cycle = cycles[i] as u32;
-    let end = lookup::start(degree + 1) as usize;
-    let mut at = lookup::start(degree) as usize;
+    let end = listing::start(degree + 1);
+    let mut at = listing::start(degree);
     while at < end {
         let word = words[at];
         let number = hook_sum(table, places, word, cycle);
@@ -80,8 +89,8 @@ fn put(table: &[i64], words: &[u32], places: &[u16], degree: u32, values: &mut [
     requires { ⌜ (degree ≤ degreeLimit) × (length (listing degree) ≤ length (now values)) ⌝ }
     ensures { λ _. ⌜ now (values .exit) ≡ atFront (entries (now (table .entry)) degree) (now (values .entry)) ⌝ }
 {
-    let start = lookup::start(degree) as usize;
-    let count = lookup::count(degree) as usize;
+    let start = listing::start(degree);
+    let count = count(degree);
     let mut i = 0;
     while i < count {
         let number = look(table, places, words[start + i]);
@@ -107,7 +116,7 @@ pub fn write(cycles: &[u8], degree: u32, values: &mut [i64])
     requires { ⌜ length (listing degree) ≤ length (now values) ⌝ }
     ensures { λ _. ⌜ now (values .exit) ≡ atFront (column (now (cycles .entry))) (now (values .entry)) ⌝ }
 {
-    let words = lookup::words();
+    let words = listing::shape_words();
     let places = lookup::places();
     let mut table = empty(&places);
     fill(&mut table, &words, &places, cycles);

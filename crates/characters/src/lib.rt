@@ -1,6 +1,5 @@
-// The calculator: characters of the symmetric group, the listing of partitions, columns of the character table, and
-// sessions that are opened, stepped and watched. Every call takes every input; a refused word or number is 0, a refused
-// call writes nothing.
+// The calculator: characters of the symmetric group, columns of the character table, and sessions that are opened,
+// stepped and watched. Every call takes every input; a refused word or number is 0, a refused call writes nothing.
 ghost use mathlib.Core.Path.{_≡_};
 ghost use Prim.Native.Nat.{_≤_};
 ghost use Rattle.theory.specs.Basics.{replicate};
@@ -16,7 +15,6 @@ mod columns;
 mod evaluation;
 mod hooks;
 mod lines;
-pub mod listing;
 mod lookup;
 mod page;
 pub mod sessions;
@@ -148,7 +146,7 @@ pub fn column(class: u32, values: &mut [i64]) -> CountAnswer
         };
     }
     let degree = of_class.number as u32;
-    let count = lookup::count(degree) as usize;
+    let count = columns::count(degree);
     if values.len() < count {
         return CountAnswer {
             refused: 14,

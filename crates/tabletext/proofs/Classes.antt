@@ -28,7 +28,8 @@ use Rattle.words.specs.Answers.{Outcome}
 use Rattle.words.specs.Calls.{classPartsInto, sizeOfClass}
 use Rattle.words.proofs.Factorials.{factorial-fits}
 use Rattle.words.proofs.Callers.{FrontGiven, front-given}
-use Rattle.characters.specs.Calls.{classAt, columnInto}
+use Rattle.listing.specs.Calls.{classAt}
+use Rattle.characters.specs.Calls.{columnInto}
 use Rattle.tabletext.specs.Table.Room.{listing-few}
 
 module _ (n r : ℕ) (small : n ≤ degreeLimit) (within : r < length (listing n)) where

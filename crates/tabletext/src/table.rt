@@ -14,7 +14,7 @@ fn count(degree: u32) -> u32
     requires { ⌜ degree ≤ degreeLimit ⌝ }
     ensures { λ r. ⌜ r ≡ length (listing degree) ⌝ }
 {
-    let first = characters::listing::class_at(degree, 0);
+    let first = listing::class_at(degree, 0);
     let mut values = [0i64; 231];
     let column = characters::column(first.word, &mut values);
     column.count as u32
@@ -27,7 +27,7 @@ fn class(degree: u32, rank: u32, out: &mut [u8], at: usize) -> usize
     requires { ⌜ at + length (classLines (getD (listing degree) rank [])) ≤ length (now out) ⌝ }
     ensures { λ r. ⌜ Wrote (classLines (getD (listing degree) rank [])) at (now (out .entry)) r (now (out .exit)) ⌝ }
 {
-    let class = characters::listing::class_at(degree, rank);
+    let class = listing::class_at(degree, rank);
     let mut parts = [0u8; 16];
     let written = words::classes::parts(class.word, &mut parts);
     let size = words::classes::size(class.word);

@@ -48,7 +48,7 @@ pub fn pairs() -> Tally {
 // A shape word alone: the number that refuses it and 0, or 0, its character degree and its rank.
 fn shape(t: Tally, word: u32, refused: u8, degree: i64, rank: i64) -> Tally {
     let told = characters::character_degree(word);
-    let ranked = characters::listing::shape_rank(word);
+    let ranked = listing::shape_rank(word);
     t.add(told.refused == refused && told.number == degree)
         .add(ranked.refused == refused && ranked.number == rank)
 }
@@ -67,7 +67,7 @@ pub fn shapes() -> Tally {
 fn class(t: Tally, word: u32, refused: u8, rank: i64) -> Tally {
     let mut none = [0i64; 0];
     let column = characters::column(word, &mut none);
-    let ranked = characters::listing::class_rank(word);
+    let ranked = listing::class_rank(word);
     let first = if refused == 0 { 14 } else { refused };
     t.add(column.refused == first && column.count == 0)
         .add(ranked.refused == refused && ranked.number == rank)

@@ -76,7 +76,7 @@ pub fn of_degree(found: Columns, degree: u32, count: u32) -> Columns
     let mut f = found;
     let mut rank = 0u32;
     while rank < count {
-        let class = characters::listing::class_at(degree, rank);
+        let class = listing::class_at(degree, rank);
         f = meet(f, class.word, count as usize);
         rank += 1;
     }

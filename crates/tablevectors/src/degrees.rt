@@ -10,7 +10,7 @@ pub struct Degrees {
 
 // Whether the shape of a rank has this character degree.
 fn has(degree: u32, rank: u32, number: i64) -> bool {
-    let shape = characters::listing::shape_at(degree, rank);
+    let shape = listing::shape_at(degree, rank);
     let told = characters::character_degree(shape.word);
     shape.refused == 0 && told.refused == 0 && told.number == number
 }
@@ -19,7 +19,7 @@ fn has(degree: u32, rank: u32, number: i64) -> bool {
 pub fn of_degree(found: Degrees, degree: u32, count: u32) -> Degrees
     requires { ⌜ (1 ≤ count) × (count ≤ 231) ⌝ }
 {
-    let class = characters::listing::class_at(degree, count - 1);
+    let class = listing::class_at(degree, count - 1);
     let mut values = [0i64; 231];
     characters::column(class.word, &mut values);
     let mut f = found;

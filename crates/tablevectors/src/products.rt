@@ -14,7 +14,7 @@ fn columns(degree: u32) -> [i64; 53361] {
     let mut table = [0i64; 53361];
     let mut rank = 0u32;
     while rank < 231 {
-        let class = characters::listing::class_at(degree, rank);
+        let class = listing::class_at(degree, rank);
         if class.refused != 0 {
             break;
         }
@@ -79,7 +79,7 @@ pub fn of_degree(t: Tally, degree: u32, count: u32, factorial: u64) -> Tally
     let mut t = t;
     let mut rank = 0u32;
     while rank < count {
-        let class = characters::listing::class_at(degree, rank);
+        let class = listing::class_at(degree, rank);
         let size = natural(words::classes::size(class.word).number);
         t = of_class(t, &table, rank, count as usize, factorial, size);
         rank += 1;

@@ -16,8 +16,8 @@ fn back(word: WordAnswer, told: NumberAnswer, rank: u32) -> bool {
 
 // Whether a rank is refused so, as a shape and as a class.
 fn refused(degree: u32, rank: u32, number: u8) -> bool {
-    let shape = characters::listing::shape_at(degree, rank);
-    let class = characters::listing::class_at(degree, rank);
+    let shape = listing::shape_at(degree, rank);
+    let class = listing::class_at(degree, rank);
     shape.refused == number && shape.word == 0 && class.refused == number && class.word == 0
 }
 
@@ -25,10 +25,10 @@ pub fn of_degree(found: Ranks, degree: u32, count: u32) -> Ranks {
     let mut f = found;
     let mut rank = 0u32;
     while rank < count {
-        let shape = characters::listing::shape_at(degree, rank);
-        let class = characters::listing::class_at(degree, rank);
-        let of_shape = characters::listing::shape_rank(shape.word);
-        let of_class = characters::listing::class_rank(class.word);
+        let shape = listing::shape_at(degree, rank);
+        let class = listing::class_at(degree, rank);
+        let of_shape = listing::shape_rank(shape.word);
+        let of_class = listing::class_rank(class.word);
         f.shapes = f.shapes.add(back(shape, of_shape, rank));
         f.classes = f.classes.add(back(class, of_class, rank));
         rank += 1;

@@ -4,7 +4,7 @@ use super::tally::Tally;
 
 // Whether the shape of a rank has this character on a class.
 fn has(degree: u32, rank: u32, class: u32, number: i64) -> bool {
-    let shape = characters::listing::shape_at(degree, rank);
+    let shape = listing::shape_at(degree, rank);
     let told = characters::character(shape.word, class);
     shape.refused == 0 && told.refused == 0 && told.number == number
 }
@@ -30,7 +30,7 @@ pub fn of_degree(t: Tally, degree: u32, count: u32) -> Tally
     let mut t = t;
     let mut rank = 0u32;
     while rank < count {
-        let class = characters::listing::class_at(degree, rank);
+        let class = listing::class_at(degree, rank);
         t = of_class(t, degree, count, class.word);
         rank += 1;
     }

@@ -58,9 +58,6 @@ count-requires c κs =
     let else1 = c .before .before in
     rw (read else1) (cycles else1 .small)
 
-cast-count : tie.Need-cast-count
-cast-count c = search needs
-
 returns-2 : tie.Need-returns-2
 returns-2 c =
     let else1 = accepted (c .before) in
@@ -107,7 +104,6 @@ column-spec =
     returns
     cast-degree
     count-requires
-    cast-count
     returns-2
     slice-aggregate-parts
     parts-requires

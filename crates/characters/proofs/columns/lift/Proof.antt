@@ -1,12 +1,14 @@
 -- `characters::columns::lift` meets its contract: the words of the degree are done one after the other. Their hooks
 -- leave words of a lower degree, whose entries stay.
-use mathlib.Core.Path.{_∙_}
-use Prim.Native.Nat.{suc, _+_, _-_, _<_}
+use mathlib.Core.Path.{_≡_, _∙_}
+use Prim.Native.Nat.{suc, _+_, _-_, _<_, _≤_}
 use native.Mathlib.Omega.{arith}
 use borrow.Author.Needs.{needs}
 use Rattle.theory.specs.Basics.{_∷_, drop, getD}
 use Rattle.theory.specs.Partition.{degree}
 use Rattle.theory.specs.Listing.Words.{start}
+use Rattle.theory.specs.Refusals.{degreeLimit}
+use Rattle.listing.proofs.Indexes.{starts}
 use Rattle.characters.proofs.Lifts.{Cut, cut, Lifting, Turn, lift-start, lift-turn, lift-next, lift-end}
 use Rattle.characters.proofs.columns.lift.Statement.{statement}
 use Rattle.characters.proofs.columns.lift.Tie as tie
@@ -23,9 +25,16 @@ begin c = c .before .before .before .before .before .before .before .before
 struck : (c : tie.Start Inv-loop μ-loop) → Cut (c .args .cycles .now) (c .args .i) (c .args .degree)
 struck c = cut _ _ _ (c .pre .1 .0 .0) (c .pre .1 .0 .1) (c .pre .1 .1 .0)
 
+small : (c : tie.Start Inv-loop μ-loop) → c .args .degree ≤ degreeLimit
+small c = omega (arith, c .pre .1 .0 .1, c .pre .1 .1 .0 .small)
+
+ends : (c : tie.In-loop Inv-loop μ-loop)
+    → c .before .before .before .start .result ≡ start (begin c .args .degree + 1)
+ends c = c .before .before .before .start .ensures ∙ starts _ (omega (arith, small (begin c)))
+
 more : (c : tie.In-loop Inv-loop μ-loop) → let a = begin c .args in
     c .before .loop .at < start (suc (degree (getD (a .cycles .now) (a .i) 0 ∷ drop (a .i + 1) (a .cycles .now))))
-more c = omega (arith, struck (begin c) .ends, c .before .before .before .start .ensures)
+more c = omega (arith, struck (begin c) .ends, ends c)
 
 turn : (c : tie.In-loop Inv-loop μ-loop) → let a = begin c .args in
     Turn (a .words .now) (c .before .loop .at) (getD (a .cycles .now) (a .i) 0)
@@ -45,22 +54,16 @@ add-start c = search needs
 start-requires : tie.Need-start-requires Inv-loop μ-loop
 start-requires c κs = search needs
 
-cast-end : tie.Need-cast-end Inv-loop μ-loop
-cast-end c = search needs
-
 start-requires-2 : tie.Need-start-requires-2 Inv-loop μ-loop
 start-requires-2 c κs = search needs
-
-cast-at : tie.Need-cast-at Inv-loop μ-loop
-cast-at c = search needs
 
 loop-holds : tie.Need-loop-holds Inv-loop μ-loop
 loop-holds c =
     let begin = c .before .before .before .before .before .before in
-    rw (c .start2 .ensures ∙ struck begin .starts) (lift-start _ _ _ (begin .pre .1 .1 .1))
+    rw (c .start2 .ensures ∙ starts _ (omega (arith, small begin)) ∙ struck begin .starts) (lift-start _ _ _ (begin .pre .1 .1 .1))
 
 mul-word : tie.Need-mul-word Inv-loop μ-loop
-mul-word c = search needs
+mul-word c = omega (arith, turn c .inside)
 
 shared-slice-read-word : tie.Need-shared-slice-read-word Inv-loop μ-loop
 shared-slice-read-word c = turn (c .before) .inside
@@ -100,7 +103,7 @@ returns : tie.Need-returns Inv-loop μ-loop
 returns c =
     let begin = c .before .before .before .before .before .before .before .before in
     let s = struck begin in
-    let past = c .before .before .before .start .ensures in
+    let past = c .before .before .before .start .ensures ∙ starts (begin .args .degree + 1) (omega (arith, small begin)) in
     rw (s .whole) (lift-end _ _ _ _ (omega (arith, s .ends, c .loop-test .left)) (c .before .loop .inv))
 
 pub lift-spec : {M : Type 1} → statement M
@@ -113,9 +116,7 @@ lift-spec =
     cast-cycle
     add-start
     start-requires
-    cast-end
     start-requires-2
-    cast-at
     loop-holds
     mul-word
     shared-slice-read-word

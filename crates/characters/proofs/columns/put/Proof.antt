@@ -9,6 +9,7 @@ use mir.Syntax.{w64}
 use borrow.Author.Needs.{needs, sfits-of}
 use Rattle.theory.specs.Basics.{drop}
 use Rattle.words.proofs.Columns.{Putting, put-start, put-next, put-all}
+use Rattle.listing.proofs.Indexes.{starts}
 use Rattle.characters.specs.Columns.{entries}
 use Rattle.characters.proofs.Entries.{entries-length, Next, next}
 use Rattle.characters.proofs.columns.put.Statement.{statement}
@@ -27,19 +28,13 @@ step : (c : tie.In-loop Inv-loop μ-loop)
 step c =
     let pre = c .before .before .before .before .before .before .pre in
     next _ _ _ (omega (arith, c .before .before .count .ensures)) _ _ (pre .0 .0)
-    (c .before .before .before .start .ensures) (pre .1 .0)
+    (c .before .before .before .start .ensures ∙ starts _ (omega (arith, pre .1 .0))) (pre .1 .0)
 
 start-requires : tie.Need-start-requires Inv-loop μ-loop
 start-requires c κs = search needs
 
-cast-start : tie.Need-cast-start Inv-loop μ-loop
-cast-start c = search needs
-
 count-requires : tie.Need-count-requires Inv-loop μ-loop
 count-requires c κs = search needs
-
-cast-count : tie.Need-cast-count Inv-loop μ-loop
-cast-count c = search needs
 
 loop-holds : tie.Need-loop-holds Inv-loop μ-loop
 loop-holds c =
@@ -96,9 +91,7 @@ put-spec =
     Inv-loop
     μ-loop
     start-requires
-    cast-start
     count-requires
-    cast-count
     loop-holds
     add-look
     mul-look

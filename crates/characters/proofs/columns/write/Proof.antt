@@ -7,8 +7,8 @@ use Rattle.characters.proofs.Entries.{entries-column}
 use Rattle.characters.proofs.columns.write.Statement.{statement}
 use Rattle.characters.proofs.columns.write.Tie as tie
 
-words-requires : tie.Need-words-requires
-words-requires c κs = search needs
+shape-words-requires : tie.Need-shape-words-requires
+shape-words-requires c κs = search needs
 
 places-requires : tie.Need-places-requires
 places-requires c κs = search needs
@@ -60,7 +60,7 @@ pub write-spec : {M : Type 1} → statement M
 write-spec =
     tie.close
     (tie.spec
-    words-requires
+    shape-words-requires
     places-requires
     slice-aggregate-empty
     empty-requires

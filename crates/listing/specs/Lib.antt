@@ -1,0 +1,2 @@
+-- What the calls of the listing promise.
+pub mod Calls

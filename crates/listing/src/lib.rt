@@ -1,0 +1,127 @@
+// The listing of partitions (document 01, "Listing"): a degree and a rank give a partition, as either word, and either
+// word gives its rank. Every call takes every input; a refused word or number is 0.
+ghost use mathlib.Core.Path.{_≡_};
+ghost use Prim.Native.Nat.{_≤_};
+ghost use Rattle.theory.specs.Basics.{length};
+ghost use Rattle.theory.specs.Partition.{degree as degreeOf};
+ghost use Rattle.theory.specs.ShapeWord.{shapeOf};
+ghost use Rattle.theory.specs.Listing.{listing, rank as rankOf};
+ghost use Rattle.theory.specs.Refusals.{degreeLimit};
+ghost use Rattle.theory.specs.Refusals.Laws.{Within};
+ghost use Rattle.listing.specs.Calls.{shapeWords, wordsWithin, wordsBefore, shapeAt, classAt, shapeRank, classRank};
+use tables::COUNTS;
+use tables::STARTS;
+use tables::WORDS;
+
+mod tables;
+
+// The shape words of the degrees 0 to 16, degree by degree, each degree in listing order.
+pub fn shape_words() -> [u32; 915]
+    ensures { λ r. ⌜ r ≡ wordsWithin degreeLimit ⌝ }
+{
+    WORDS
+}
+
+// Where the words of a degree start among them: how many have a smaller degree. Above 16 it is all of them.
+pub fn start(degree: u32) -> usize
+    ensures { λ r. ⌜ r ≡ wordsBefore degreeLimit degree ⌝ }
+{
+    if words::LIMIT < degree {
+        return 915;
+    }
+    let n = degree as usize;
+    STARTS[n]
+}
+
+// How many partitions a degree has.
+fn count(degree: u32) -> u32
+    requires { ⌜ degree ≤ degreeLimit ⌝ }
+    ensures { λ r. ⌜ r ≡ length (listing degree) ⌝ }
+{
+    let n = degree as usize;
+    COUNTS[n]
+}
+
+// The shape word of a rank. Refuses 12, then 11.
+pub fn shape_at(degree: u32, rank: u32) -> words::WordAnswer
+    ensures { λ r. ⌜ r ≡ shapeAt degreeLimit degree rank ⌝ }
+{
+    if words::LIMIT < degree {
+        return words::WordAnswer {
+            refused: 12,
+            word: 0,
+        };
+    }
+    if count(degree) <= rank {
+        return words::WordAnswer {
+            refused: 11,
+            word: 0,
+        };
+    }
+    let words = shape_words();
+    let i = start(degree) + rank as usize;
+    words::WordAnswer {
+        refused: 0,
+        word: words[i],
+    }
+}
+
+// The class word of a rank. Refuses 12, then 11.
+pub fn class_at(degree: u32, rank: u32) -> words::WordAnswer
+    ensures { λ r. ⌜ r ≡ classAt degreeLimit degree rank ⌝ }
+{
+    let shape = shape_at(degree, rank);
+    if shape.refused != 0 {
+        return shape;
+    }
+    let mut parts = [0u8; 16];
+    let written = words::shapes::parts(shape.word, &mut parts);
+    let count = written.count;
+    words::classes::word(&parts[..count])
+}
+
+// The rank of a shape word of this degree, searched for among the words of its degree. The words are lent, since a
+// constant would be made anew at each turn.
+fn search(words: &[u32], word: u32, degree: u32) -> u32
+    requires { ⌜ (now words ≡ shapeWords) × Within degreeLimit word × (degree ≡ degreeOf (shapeOf word)) ⌝ }
+    ensures { λ r. ⌜ r ≡ rankOf (shapeOf word) ⌝ }
+{
+    let start = start(degree);
+    let mut rank = 0u32;
+    while words[start + rank as usize] != word {
+        rank += 1;
+    }
+    rank
+}
+
+// The rank of a shape. Refuses 1, then 2.
+pub fn shape_rank(word: u32) -> words::NumberAnswer
+    ensures { λ r. ⌜ r ≡ shapeRank degreeLimit word ⌝ }
+{
+    let degree = words::shapes::degree(word);
+    if degree.refused != 0 {
+        return degree;
+    }
+    let rank = search(&shape_words(), word, degree.number as u32);
+    words::NumberAnswer {
+        refused: 0,
+        number: rank as i64,
+    }
+}
+
+// The rank of a class. Refuses 3, then 4.
+pub fn class_rank(word: u32) -> words::NumberAnswer
+    ensures { λ r. ⌜ r ≡ classRank degreeLimit word ⌝ }
+{
+    let mut parts = [0u8; 16];
+    let written = words::classes::parts(word, &mut parts);
+    if written.refused != 0 {
+        return words::NumberAnswer {
+            refused: written.refused,
+            number: 0,
+        };
+    }
+    let count = written.count;
+    let shape = words::shapes::word(&parts[..count]);
+    shape_rank(shape.word)
+}

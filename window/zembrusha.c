@@ -263,7 +263,7 @@ static void show_line(const struct session *session, uint64_t line, bool watched
     if (watched) {
         double ratio =
             zembrusha_watch_ratio(session->slip, session->page, ZEMBRUSHA_PAGE_LIMIT, ZEMBRUSHA_LINE_RATIO, line);
-        printf(", character %" PRId64 ", ratio %g", watch(session, ZEMBRUSHA_LINE_CHARACTER, line), ratio);
+        printf(", signed character %" PRId64 ", ratio %g", watch(session, ZEMBRUSHA_LINE_CHARACTER, line), ratio);
     }
     printf("\n");
 }
@@ -292,7 +292,7 @@ static bool may_watch(const struct session *session)
     return refused == 0;
 }
 
-/* How the session stands, with characters, ratios and sums where they are wanted. */
+/* How the session stands, with signed characters, ratios and sums where they are wanted. */
 static void show_session(const struct session *session, bool wanted)
 {
     if (!session->opened) {
@@ -451,7 +451,7 @@ static const struct command COMMANDS[] = {
     {"open", 2, run_open, SHOW_SESSION, "open SHAPE CLASS", "opens a session, as open 3,2 3,2"},
     {"strike", 2, run_strike, SHOW_SESSION, "strike LINE CYCLE", "strikes a cycle from a waiting line, as strike 0 3"},
     {"lines", 0, NULL, SHOW_SESSION, "lines", "shows the session and its waiting lines"},
-    {"watch", 0, NULL, SHOW_WATCHED, "watch", "shows them with characters, ratios and sums"},
+    {"watch", 0, NULL, SHOW_WATCHED, "watch", "shows them with signed characters, ratios and sums"},
     {"table", 1, run_table, SHOW_SESSION, "table N", "shows the character table of degree N, a row to a class"},
     {"help", 0, run_help, SHOW_SESSION, "help", "shows this"},
     {"quit", 0, NULL, QUIT, "quit", "ends"},

@@ -1,18 +1,15 @@
 -- Laws of the places, by computed tests where they speak of the numbers themselves.
 use mathlib.Core.Path.{_≡_, refl, sym, _∙_, ap}
-use Prim.Native.Nat.{_≤_, _<_}
-use native.Mathlib.Decide.{ℕ-discrete}
+use Prim.Native.Nat.{_<_}
 use native.Mathlib.Omega.{arith}
 use lib.ListN.{length-map}
 use borrow.Author.Tests.{leb-true}
 use Rattle.theory.specs.Basics.{true, List, [], _∷_, map, ℕ, suc, _+_, _*_, _/_, _%_, _^_, getD, _≤?_, every, length}
 use Rattle.theory.specs.Basics.Places.{every-at, map-at, tabled, tabled-at}
-use Rattle.theory.specs.Partition.{degree}
 use Rattle.theory.specs.Digits.{word}
-use Rattle.theory.specs.ShapeWord.{shapeOf}
-use Rattle.theory.specs.Listing.{listing, partitions, rank}
-use Rattle.theory.specs.Listing.Words.{wordsBelow, start, start-next, start-within, word-at, word-ranked}
-use Rattle.theory.specs.Listing.Words.{index, Indexed, indexed}
+use Rattle.theory.specs.Listing.{listing, partitions}
+use Rattle.theory.specs.Listing.Words.{wordsBelow}
+use Rattle.theory.specs.Listing.Words.{index}
 use Rattle.theory.specs.Refusals.{degreeLimit}
 use Rattle.theory.specs.Refusals.Laws.{Within}
 use Rattle.characters.specs.Places.{places}

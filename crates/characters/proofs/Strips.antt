@@ -29,7 +29,7 @@ use Rattle.theory.specs.Bounds.Laws.{abs-add, abs-signed}
 use Rattle.theory.specs.Refusals.{degreeLimit}
 use Rattle.words.specs.Answers.{Outcome}
 use Rattle.words.proofs.Columns.{Putting, put-start, put-next, put-all}
-use Rattle.characters.specs.Line.{line, lineMinus, lineShape, lineClass, weight, times, hookLines}
+use Rattle.characters.specs.Line.{line, lineMinus, lineShape, lineClass, weight, multiplied, hookLines}
 use Rattle.characters.specs.Line.Laws.{read-back}
 use Rattle.characters.specs.Line.Hooks.{hook-lines-few}
 use Rattle.characters.specs.Step.{empty}
@@ -81,7 +81,7 @@ module _ (cycle x : ℕ) (lent : List ℕ) where
 -- ---- the walk
 abbrev lineAt : ℕ → ℕ → ℕ → ℕ → ℕ
 lineAt cycle x class b =
-    let hook = markedHook cycle (lineShape x) b in line (times (lineMinus x) (hook .minus)) (hook .leaves) class
+    let hook = markedHook cycle (lineShape x) b in line (multiplied (lineMinus x) (hook .minus)) (hook .leaves) class
 
 signed-one : (minus : Bool) → signed minus (pos 1) ≡ cond minus (negsuc 0) (pos 1)
 signed-one true = refl
@@ -107,7 +107,7 @@ module _ (cycle x class : ℕ) (lent : List ℕ) where
     pub small : markedHook cycle (lineShape x) (31 - z) .leaves < 2 ^ 31
     pub room : natAbs settled + 1 < 2 ^ 63
     pub goes : markedHook cycle (lineShape x) (31 - z) .leaves ≡ 0 → Stripping (left - one) strip count
-        (carried (settled +ℤ signed (times (lineMinus x) (markedHook cycle (lineShape x) (31 - z) .minus)) (pos 1)))
+        (carried (settled +ℤ signed (multiplied (lineMinus x) (markedHook cycle (lineShape x) (31 - z) .minus)) (pos 1)))
     pub inside : (markedHook cycle (lineShape x) (31 - z) .leaves ≡ 0 → ⊥) → count < length strip
     pub stays : (markedHook cycle (lineShape x) (31 - z) .leaves ≡ 0 → ⊥)
         → Stripping (left - one) (set strip count (lineAt cycle x class (31 - z))) (count + 1) settled
@@ -156,7 +156,7 @@ module _ (cycle x class : ℕ) (lent : List ℕ) where
           let top = highest 31 left (pos-of-ne-zero more) (w .below) in
           let b : ℕ = 31 - leadingZeros 32 left in
           let hook : Hook ℕ = markedHook cycle (lineShape x) b in
-          let minus : Bool = times (lineMinus x) (hook .minus) in
+          let minus : Bool = multiplied (lineMinus x) (hook .minus) in
           let (begun, others) = rw (top .rest) at (w .begun) in
           let good = ltb-true (hook .leaves) (2 ^ 30) (begun .left .good) in
           let y : ℕ = lineAt cycle x class b in

@@ -1,15 +1,12 @@
 -- No second outcome meets a contract. Each theorem is of the contract itself, as Rattle reads it (`Reads.Post`).
-use mathlib.Core.Path.{_≡_, refl, sym, _∙_, ap}
+use mathlib.Core.Path.{_≡_, sym, _∙_}
 use denote.Ref.{now}
-use Rattle.theory.specs.Basics.{ℕ}
 use Rattle.theory.specs.Refusals.{degreeLimit}
 use Rattle.words.specs.Answers.{one-outcome}
-use Rattle.characters.specs.declared.Watched.{Watched}
-use Rattle.characters.specs.declared.Watched.the-variants.{Whole, Ratio, Refused}
 use Rattle.characters.specs.Calls.{columnInto}
 use Rattle.characters.specs.Opening.{opening}
 use Rattle.characters.specs.Step.{step}
-use Rattle.characters.specs.Watch.{Value, whole, quotient, none, reads}
+use Rattle.characters.specs.Watch.Answers.{one-answer}
 use Rattle.characters.proofs.character.Reads as character
 use Rattle.characters.proofs.character_degree.Reads as character-degree
 use Rattle.characters.proofs.column.Reads as column
@@ -40,17 +37,6 @@ pub step-once : (κs : _) (a : _) (r r′ : _) (s s′ : _) → step-session.Pos
 step-once κs a r r′ s s′ p q =
     one-outcome (step degreeLimit (a .0) (now (a .1 .0)) (a .1 .1 .0) (a .1 .1 .1 .0)) p q
 
--- the number and the value of an answer tell which answer it is
-abbrev answerOf : ℕ × Value → Watched
-answerOf (k, whole z) = Whole z
-answerOf (k, quotient q) = Ratio q
-answerOf (k, none) = Refused k
-
-answer-read : (r : Watched) → answerOf (reads r) ≡ r
-answer-read (Whole z) = refl
-answer-read (Ratio q) = refl
-answer-read (Refused k) = refl
-
 pub watch-once : (κs : _) (a : _) (r r′ : _) (s s′ : _) → watch-session.Post κs a r s → watch-session.Post κs a r′ s′
     → r ≡ r′
-watch-once κs a r r′ s s′ p q = sym (answer-read r) ∙ ap answerOf (p ∙ sym q) ∙ answer-read r′
+watch-once κs a r r′ s s′ p q = one-answer r r′ _ p q

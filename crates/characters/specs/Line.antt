@@ -2,7 +2,7 @@
 --   line minus shape class   the 64-bit word of a line; lineMinus, lineShape and lineClass read it back
 --   lineDegree x             the degree of its shape
 --   weight x                 1, or -1 where its sign digit is set; signedCharacter x, its weight times its character
---   times a b                the sign of a product: minus where just one of the two signs is
+--   multiplied a b           a sign with another multiplied in: minus where just one of the two is
 --   hookLines cycle x        for each hook, in hook order, a line: its sign multiplied in, its class without one cycle
 use Rattle.theory.specs.Basics.{Bool, not, cond, List, map, ℕ, _+_, _*_, _/_, _%_, _^_, ℤ, pos, negsuc, _*ℤ_}
 use Rattle.theory.specs.Partition.{degree, without}
@@ -35,12 +35,12 @@ weight x = cond (lineMinus x) (negsuc 0) (pos 1)
 unfoldable pub signedCharacter : ℕ → ℤ
 signedCharacter x = weight x *ℤ (shapeOf (lineShape x) on classOf (lineClass x))
 
-abbrev pub times : Bool → Bool → Bool
-times a b = cond a (not b) b
+abbrev pub multiplied : Bool → Bool → Bool
+multiplied a b = cond a (not b) b
 
 unfoldable pub hookLines : ℕ → ℕ → List ℕ
 hookLines cycle x =
-    map (λ hook. line (times (lineMinus x) (hook .minus)) (hook .leaves) left) (hookWords cycle (lineShape x))
+    map (λ hook. line (multiplied (lineMinus x) (hook .minus)) (hook .leaves) left) (hookWords cycle (lineShape x))
   where
     left : ℕ
     left = classWord (without cycle (classOf (lineClass x)))

@@ -3,7 +3,7 @@
 --   nextLines ..   the line is taken out, later lines move down, the lines of its hooks are put at the end
 --   nextSlip ..    the signs of the hooks that leave the empty shape are added to settled, and steps rise by one
 --   step ..        what a step answers, and the page that it leaves
-use Rattle.theory.specs.Basics.{Bool, not, List, [], _∷_, _++_, length, getD, take, drop, ℕ, suc, ℤ, pos, _+ℤ_}
+use Rattle.theory.specs.Basics.{Bool, not, List, [], _∷_, _++_, length, getD, take, drop, ℕ, suc, pos, _+ℤ_}
 use Rattle.theory.specs.Basics.{_=?_, keep, sum}
 use Rattle.theory.specs.ClassWord.{classOf}
 use Rattle.theory.specs.Refusals.{Row, firstOf, judged, no-6, no-7, no-8, no-9, no-10}

@@ -15,6 +15,7 @@ use Rattle.characters.specs.declared.Watched.{Watched}
 use Rattle.characters.specs.declared.Watched.the-variants.{Whole, Ratio, Refused}
 use Rattle.characters.specs.Line.{lineShape, signedCharacter}
 use Rattle.characters.specs.Sound.{waiting, sound}
+pub mod Answers
 pub mod Ratios
 
 pub data Value : Type 0 where

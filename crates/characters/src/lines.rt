@@ -9,7 +9,7 @@ ghost use Rattle.theory.specs.Bounds.{factorial};
 ghost use Rattle.theory.specs.Refusals.{degreeLimit};
 ghost use Rattle.words.specs.Answers.{Outcome};
 ghost use Rattle.characters.specs.Line.{line as lineWord, lineMinus, lineShape, lineClass};
-ghost use Rattle.characters.specs.Line.{lineDegree, signedCharacter, times};
+ghost use Rattle.characters.specs.Line.{lineDegree, signedCharacter, multiplied};
 ghost use Rattle.characters.specs.Line.Laws.{over};
 ghost use Rattle.characters.specs.Sound.Laws.{SoundLine};
 ghost use Rattle.characters.specs.Lines.{soundDegree, struckClass, Strikes, stripped};
@@ -125,7 +125,7 @@ pub fn sum(lines: &[u64]) -> i64
 
 // The sign of a product: whether just one of the two is minus.
 fn product(a: bool, b: bool) -> bool
-    ensures { λ r. ⌜ r ≡ times a b ⌝ }
+    ensures { λ r. ⌜ r ≡ multiplied a b ⌝ }
 {
     if a { !b } else { b }
 }

@@ -1,6 +1,6 @@
 -- From what the calculator answers of the class of a rank to the class itself: its parts, its size, its column.
 --   class n r   the class of rank r in the listing of degree n
-use mathlib.Core.Path.{_≡_, refl, sym, _∙_, ap}
+use mathlib.Core.Path.{_≡_, refl, _∙_, ap}
 use Prim.Native.Nat.{_≤_, _<_}
 use native.Mathlib.Nat.{div-le-self}
 use native.Mathlib.Omega.{arith}

@@ -4,9 +4,9 @@ use mathlib.Core.Path.{_≡_}
 use Prim.Native.Nat.{_≤_, _<_}
 use native.Mathlib.Numerals.{add-one}
 use native.Mathlib.Omega.{arith}
-use lib.ListN.{length-append, length-map}
+use lib.ListN.{length-map}
 use lib.Seq.{take-all}
-use Rattle.theory.specs.Basics.{List, [], _++_, map, ℕ, zero, suc, _+_, length, getD, take}
+use Rattle.theory.specs.Basics.{List, [], _++_, map, ℕ, suc, _+_, length, getD, take}
 use Rattle.theory.specs.Basics.Places.{map-at}
 use Rattle.tabletext.specs.Table.{Text, commas}
 use Rattle.tabletext.specs.Table.Lists.{separator, commas-next, commas-front}

@@ -24,8 +24,8 @@ use Rattle.theory.specs.Hooks.{Hook, hookWords, signed}
 use Rattle.theory.specs.Hooks.Words.{Left, hooks-leave, hooks-few, hook-rule-words}
 use Rattle.theory.specs.Hooks.Signed.{signed-sum}
 use Rattle.theory.specs.Bounds.Steps.{hooks-total}
-use Rattle.characters.specs.Line as Line
-use Rattle.characters.specs.Line.{line, lineMinus, lineShape, lineClass, lineDegree, signedCharacter, hookLines}
+use Rattle.characters.specs.Line.{line, lineMinus, lineShape, lineClass, lineDegree, signedCharacter}
+use Rattle.characters.specs.Line.{multiplied, hookLines}
 use Rattle.characters.specs.Line.Laws.{ReadBack, read-back, good-class, over}
 
 abbrev pub Has : ℕ → ℕ → Type 0
@@ -42,11 +42,11 @@ module _ (cycle x : ℕ) where
   classLeft = classWord (without cycle (classOf (lineClass x)))
 
   abbrev made : Hook ℕ → ℕ
-  made hook = line (Line.times (lineMinus x) (hook .minus)) (hook .leaves) classLeft
+  made hook = line (multiplied (lineMinus x) (hook .minus)) (hook .leaves) classLeft
 
   -- ---- each line that a hook makes
   abbrev Read : Hook ℕ → Type 0
-  Read hook = ReadBack (Line.times (lineMinus x) (hook .minus)) (hook .leaves) classLeft (made hook)
+  Read hook = ReadBack (multiplied (lineMinus x) (hook .minus)) (hook .leaves) classLeft (made hook)
 
   read : (hook : Hook ℕ) → Left cycle (lineShape x) hook → Read hook
   read hook l =
@@ -93,10 +93,10 @@ weighed true (negsuc n) = ap pos (one-mul (suc n))
 weighed false (pos n) = ap pos (one-mul n)
 weighed false (negsuc n) = ap (λ (m : ℕ). signed true (pos m)) (one-mul (suc n))
 
-signed-times : (a b : Bool) (z : ℤ) → signed a (signed b z) ≡ signed (Line.times a b) z
-signed-times true true z = negℤ-negℤ z
-signed-times true false z = refl
-signed-times false b z = refl
+signed-multiplied : (a b : Bool) (z : ℤ) → signed a (signed b z) ≡ signed (multiplied a b) z
+signed-multiplied true true z = negℤ-negℤ z
+signed-multiplied true false z = refl
+signed-multiplied false b z = refl
 
 pub signed-character : (x : ℕ)
     → signedCharacter x ≡ signed (lineMinus x) (shapeOf (lineShape x) on classOf (lineClass x))
@@ -114,7 +114,7 @@ module _ (cycle x : ℕ) (good : goodClass (lineClass x) ≡ true) (has : Has cy
 
   made-character : (hook : Hook ℕ) → Left cycle (lineShape x) hook
       → signedCharacter (made cycle x hook)
-      ≡ signed (Line.times (lineMinus x) (hook .minus))
+      ≡ signed (multiplied (lineMinus x) (hook .minus))
       (shapeOf (hook .leaves) on without cycle (classOf (lineClass x)))
   made-character hook l =
       let r = read cycle x hook l in
@@ -130,6 +130,6 @@ module _ (cycle x : ℕ) (good : goodClass (lineClass x) ≡ true) (has : Has cy
       (hook-rule-words cycle c (parts-no-zero 0 (digits width (lineClass x))) has (lineShape x))
       ∙ signed-sum (lineMinus x) _ hooks
       ∙ sum-same (Left cycle (lineShape x)) _ (λ hook. signedCharacter (made cycle x hook)) hooks
-      (λ hook l. signed-times (lineMinus x) (hook .minus) _ ∙ sym (made-character hook l))
+      (λ hook l. signed-multiplied (lineMinus x) (hook .minus) _ ∙ sym (made-character hook l))
       (hooks-leave cycle (lineShape x))
       ∙ sym (sum-map signedCharacter (made cycle x) hooks)

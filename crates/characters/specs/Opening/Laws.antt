@@ -1,5 +1,4 @@
 -- An accepted opening of a shape word on a class word of 32 bits is sound, and worth the character that it asks for.
---   openingRows ..               what an opening is judged by
 --   Opens limit s c page         what it says that no row refuses an opening
 --   First s c settled lines      what is true of what an opening settles and of the lines that it writes
 --   Opened limit s c page t q    what is true of the slip t and the page q of an accepted opening
@@ -10,8 +9,8 @@ use native.Mathlib.Decide.{ℕ-discrete}
 use native.Mathlib.Omega.{arith}
 use lib.IntN.{+ℤ-idl, +ℤ-idr}
 use borrow.Author.Tests.{ltb-false, ltb-true, eq-eqb, ne-eqb}
-use Rattle.theory.specs.Basics.{false, cond, List, [], _∷_, _++_, length, ℕ, zero, suc, _+_, _^_, ℤ, pos, _+ℤ_, natAbs}
-use Rattle.theory.specs.Basics.{_=?_, sum}
+use Rattle.theory.specs.Basics.{false, List, [], _∷_, length, ℕ, zero, suc, _+_, _^_, ℤ, pos, _+ℤ_, natAbs}
+use Rattle.theory.specs.Basics.{sum}
 use Rattle.theory.specs.Basics.Laws.{Each}
 use Rattle.theory.specs.Basics.Keep.{each-parts}
 use Rattle.theory.specs.Partition.{degree}
@@ -23,7 +22,7 @@ use Rattle.theory.specs.ClassWord.Laws.{class-held}
 use Rattle.theory.specs.Character.{_on_}
 use Rattle.theory.specs.Character.Empty.{empty-on-empty}
 use Rattle.theory.specs.Bounds.{factorial, S}
-use Rattle.theory.specs.Refusals.{Row, firstOf, judged, pairRows, no-6, no-10, pageLimit}
+use Rattle.theory.specs.Refusals.{firstOf, judged, pairRows, no-6, no-10, pageLimit}
 use Rattle.theory.specs.Refusals.Laws.{judged-refused, none-applies, first-part, Matched, matched}
 use Rattle.characters.specs.declared.Slip.{Slip}
 use Rattle.characters.specs.declared.Handed.{Handed}
@@ -31,12 +30,9 @@ use Rattle.characters.specs.Line.{line, signedCharacter}
 use Rattle.characters.specs.Line.Laws.{over, read-back}
 use Rattle.characters.specs.Line.Hooks.{signed-character}
 use Rattle.characters.specs.Sound.Laws.{SoundLine, Sound}
-use Rattle.characters.specs.Opening.{handed, blank, firstLines, opening}
+use Rattle.characters.specs.Opening.{handed, blank, firstLines, firstSettled, openingRows, opening}
 use Rattle.characters.specs.Opening.Padded.{length-padded, sound-padded, worth-padded}
 use Rattle.characters.specs.Run.{worth}
-
-abbrev pub openingRows : ℕ → ℕ → ℕ → List ℕ → List Row
-openingRows limit s c page = pairRows limit s c ++ no-6 page ∷ no-10 (firstLines s c) page ∷ []
 
 pub record Opens (limit s c : ℕ) (page : List ℕ) : Type 0 where
   pub words : firstOf (pairRows limit s c) ≡ 0
@@ -53,9 +49,6 @@ opens limit s c page e =
       short = ltb-false pageLimit (length page) (b .0);
       room = ltb-false (length page) (length (firstLines s c)) (b .1 .0);
     }
-
-abbrev firstSettled : ℕ → ℤ
-firstSettled s = cond (degree (shapeOf s) =? 0) (pos 1) (pos 0)
 
 record First (s c : ℕ) (settled : ℤ) (lines : List ℕ) : Type 0 where
   each : Each (SoundLine (degree (shapeOf s))) lines

@@ -1,7 +1,6 @@
 -- A run's answers are determined by its requests (document 01, "no second outcome"): so to strike the watches alters no
 -- other answer, whichever way one looks at it.
 --   Request              a call without its answer; request call, what a call asked; requests calls, what all asked
---   said w               the answer that reads w
 --   answered s p r       the call that asks r of slip s and page p, with the answer that is promised
 --   slipAfter, pageAfter what it hands on
 --   answers s p rs       the calls that ask rs, one after the other; end s p rs, the slip and page that they lead to
@@ -10,11 +9,10 @@ use Rattle.theory.specs.Basics.{List, [], _∷_, map, ℕ}
 use Rattle.words.specs.Answers.{one-outcome}
 use Rattle.characters.specs.declared.Slip.{Slip}
 use Rattle.characters.specs.declared.Handed.{Handed}
-use Rattle.characters.specs.declared.Watched.{Watched}
-use Rattle.characters.specs.declared.Watched.the-variants.{Whole, Ratio, Refused}
 use Rattle.characters.specs.Opening.{opening}
 use Rattle.characters.specs.Step.{step}
-use Rattle.characters.specs.Watch.{Value, whole, quotient, none, reads, watch}
+use Rattle.characters.specs.Watch.{watch}
+use Rattle.characters.specs.Watch.Answers.{said, said-reads}
 use Rattle.characters.specs.Run.{Call, opened, stepped, watched, Run, Session, unwatched}
 use Rattle.characters.specs.Run.Kept.{session-unwatched}
 
@@ -32,16 +30,6 @@ abbrev pub requests : List Call → List Request
 requests calls = map request calls
 
 -- ---- the one answer
-abbrev said : ℕ × Value → Watched
-said (k, whole z) = Whole z
-said (k, quotient q) = Ratio q
-said (k, none) = Refused k
-
-said-reads : (a : Watched) → said (reads a) ≡ a
-said-reads (Whole z) = refl
-said-reads (Ratio q) = refl
-said-reads (Refused k) = refl
-
 module _ (limit : ℕ) where
   abbrev answered : Slip → List ℕ → Request → Call
   answered s p (to-open shape class) =

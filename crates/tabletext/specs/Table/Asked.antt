@@ -8,8 +8,8 @@ use native.Mathlib.Decide.{ℕ-discrete}
 use native.Mathlib.Omega.{arith}
 use borrow.Author.Tests.{eqb-true, lt-ltb, le-ltb}
 use lib.ListN.{length-append, length-take}
-use Rattle.theory.specs.Basics.{Bool, true, false, _&&_, List, [], _∷_, ℕ, zero, suc, length, take}
-use Rattle.theory.specs.Basics.{_=?_, keep, every, downFrom}
+use Rattle.theory.specs.Basics.{Bool, true, List, [], _∷_, ℕ, zero, suc, length, take}
+use Rattle.theory.specs.Basics.{_=?_, every, downFrom}
 use Rattle.theory.specs.Basics.Laws.{Each, both}
 use Rattle.theory.specs.Basics.Keep.{each-keep}
 use Rattle.theory.specs.Listing.{listing, same}

@@ -1,11 +1,11 @@
 -- Texts set apart by commas, one after the other.
 --   separator i   what stands in front of text i of a list: a comma, but nothing in front of the first
-use mathlib.Core.Path.{_≡_, refl, sym, _∙_, ap}
+use mathlib.Core.Path.{_≡_, sym}
 use mathlib.Core.List.{append-assoc, append-nil}
 use Prim.Native.Nat.{_≤_, _<_}
 use native.Mathlib.Omega.{arith}
 use lib.ListN.{length-append}
-use Rattle.theory.specs.Basics.{List, [], _∷_, _++_, ℕ, zero, suc, _+_, _*_, length, getD, take, joined}
+use Rattle.theory.specs.Basics.{List, [], _∷_, _++_, ℕ, zero, suc, _*_, length, getD, take}
 use Rattle.theory.specs.Basics.Laws.{Each, each-same}
 use Rattle.theory.specs.Basics.Joined.{joined-next, joined-front, joined-length}
 use Rattle.tabletext.specs.Table.{Text, ascii, commas}

@@ -11,7 +11,7 @@ use Rattle.theory.specs.Basics.{_=?_, _<?_, _≤?_, joined}
 use Rattle.theory.specs.Basics.Laws.{Each, each-same, each-map, each-member}
 use Rattle.theory.specs.Basics.Places.{every-at}
 use Rattle.theory.specs.Basics.Joined.{joined-length}
-use Rattle.theory.specs.Partition.{Parts, degree}
+use Rattle.theory.specs.Partition.{Parts}
 use Rattle.theory.specs.Partition.Laws.{no-zero, length-degree}
 use Rattle.theory.specs.Character.{_on_}
 use Rattle.theory.specs.ClassData.{classSize}

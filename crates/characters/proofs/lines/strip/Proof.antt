@@ -9,7 +9,7 @@ use mir.Val.{toZ}
 use borrow.Author.Needs.{needs}
 use Rattle.theory.specs.Hooks.{Hook}
 use Rattle.theory.specs.Hooks.Marks.{markedHook}
-use Rattle.characters.specs.Line.{lineMinus, lineShape, times}
+use Rattle.characters.specs.Line.{lineMinus, lineShape, multiplied}
 use Rattle.characters.proofs.Strips.{Stripping, HookTurn, cycle-short, strip-start, strip-turn, strip-end}
 use Rattle.characters.proofs.lines.strip.Statement.{statement}
 use Rattle.characters.proofs.lines.strip.Tie as tie
@@ -48,12 +48,12 @@ leaves-is c =
     ∙ ap (λ (s : ℕ). markedHook (a .cycle) s (place c) .leaves) (marked .before .before .shape .ensures)
 
 sign-is : (c : tie.After-product Inv-loop μ-loop)
-    → c .product .result ≡ times (lineMinus (start (c .before .before .before .before) .args .line)) (hook c .minus)
+    → c .product .result ≡ multiplied (lineMinus (start (c .before .before .before .before) .args .line)) (hook c .minus)
 sign-is c =
     let marked = c .before .before .before .before .before in
     let a = start (c .before .before .before .before) .args in
     c .product .ensures
-    ∙ ap₂ times (marked .before .minus .ensures)
+    ∙ ap₂ multiplied (marked .before .minus .ensures)
     (c .before .minus2 .ensures
     ∙ ap (λ (s : ℕ). markedHook (a .cycle) s (place c) .minus) (marked .before .before .shape .ensures))
 

@@ -3,13 +3,12 @@
 use native.Mathlib.Omega.{arith}
 use mathlib.Core.Path.{_≡_, refl, sym, _∙_, ap}
 use mathlib.Core.Bool.{false≢true}
-use Prim.Native.Nat.{_<_, _≤_}
+use Prim.Native.Nat.{_≤_}
 use lib.Seq.{length-take-le}
 use borrow.Author.Needs.{needs}
-use Rattle.theory.specs.Basics.{ℕ, List, getD, take, length}
-use Rattle.tabletext.specs.Table.{asked}
+use Rattle.theory.specs.Basics.{take, length}
 use Rattle.tabletext.specs.Table.Asked.{asking, asking-short}
-use Rattle.tabletext.specs.Reading.{none, candidate}
+use Rattle.tabletext.specs.Reading.{candidate}
 use Rattle.tabletext.specs.Reading.Laws.{candidate-small, read-asked, read-nothing}
 use Rattle.tabletext.specs.Writing.Laws.{wrote-take, wrote-length}
 use Rattle.tabletext.proofs.reading.asked.Statement.{statement}

@@ -1,5 +1,4 @@
 -- `tabletext::reading::digit` meets its contract.
-use native.Mathlib.Omega.{arith}
 use borrow.Author.Tests.{le-leb, lt-leb}
 use Rattle.tabletext.proofs.reading.digit.Statement.{statement}
 use Rattle.tabletext.proofs.reading.digit.Tie as tie

@@ -1,18 +1,17 @@
 -- `tabletext::table::class` meets its contract: what the calculator answers of the class is what its lines have.
 use native.Mathlib.Omega.{arith}
-use mathlib.Core.Path.{_≡_, sym, _∙_, ap}
+use mathlib.Core.Path.{_≡_, sym}
 use lib.Seq.{length-take-le}
-use mir.Facts.{toZ-ofZ}
 use mir.Syntax.{w64}
 use mir.Val.{toZ, ofZ}
-use borrow.Author.Needs.{needs, sfits-of}
-use Rattle.theory.specs.Basics.{[], ℕ, getD, take, pos, natAbs}
+use borrow.Author.Needs.{needs}
+use Rattle.theory.specs.Basics.{[], getD, take, pos, natAbs}
 use Rattle.theory.specs.Partition.{Parts}
 use Rattle.theory.specs.ClassWord.{classWord}
 use Rattle.theory.specs.ClassData.{classSize}
 use Rattle.theory.specs.Listing.{listing, column}
 use Rattle.words.proofs.Callers.{FrontGiven}
-use Rattle.tabletext.specs.Table.{Text, classText, classLines}
+use Rattle.tabletext.specs.Table.{classText, classLines}
 use Rattle.tabletext.proofs.Classes.{word-of-rank, parts-of-rank, size-fits, size-of-rank, column-of-rank}
 use Rattle.tabletext.proofs.table.class.Statement.{statement}
 use Rattle.tabletext.proofs.table.class.Tie as tie

@@ -1,5 +1,4 @@
 -- `tabletext::table::table` meets its contract: the lines of the table, one behind the other.
-use mathlib.Core.Path.{_≡_}
 use Prim.Native.Nat.{_≤_}
 use borrow.Author.Needs.{needs}
 use Rattle.theory.specs.Basics.{List, _++_, ℕ, _+_, length, joined}

@@ -2,7 +2,7 @@
 use mathlib.Core.Path.{_≡_, _∙_, ap}
 use mir.Facts.{toZ-ofZ}
 use borrow.Author.Needs.{needs}
-use Rattle.theory.specs.Basics.{length, natAbs}
+use Rattle.theory.specs.Basics.{natAbs}
 use Rattle.tabletext.specs.Table.{decimal, minus, integer}
 use Rattle.tabletext.specs.Writing.{Wrote}
 use Rattle.tabletext.specs.Writing.Laws.{first-room, wrote-room, wrote-then}

@@ -3,10 +3,10 @@ use native.Mathlib.Omega.{arith}
 use native.Mathlib.Numerals.{add-one}
 use mathlib.Core.Path.{_≡_, sym, _∙_, ap}
 use Prim.Native.Nat.{_≤_}
-use lib.ListN.{set, length-set, drop-of-length-le}
+use lib.ListN.{length-set, drop-of-length-le}
 use lib.Seq.{sets, drop-cons}
 use borrow.Author.Needs.{needs}
-use Rattle.theory.specs.Basics.{_+_, _-_, length, getD, drop}
+use Rattle.theory.specs.Basics.{_+_, _-_, length, drop}
 use Rattle.tabletext.proofs.text.put.Statement.{statement}
 use Rattle.tabletext.proofs.text.put.Tie as tie
 use Rattle.tabletext.proofs.text.put.Reads as reads

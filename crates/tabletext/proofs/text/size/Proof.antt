@@ -1,16 +1,16 @@
 -- `tabletext::text::size` meets its contract. `!z` is -z - 1, which a negative z never takes out of range.
 use native.Mathlib.Omega.{arith}
-use mathlib.Core.Path.{_≡_, refl, sym, _∙_, ap}
+use mathlib.Core.Path.{_≡_, refl, _∙_, ap}
 use mathlib.Core.Bool.{true, false}
 use Prim.Native.Nat.{_<_}
 use lib.Dec.{T}
-use lib.Signed.{mag, ltZ, nonNeg}
+use lib.Signed.{ltZ, nonNeg}
 use mir.Syntax.{w64}
 use mir.Val.{Fits, SFits, toZ, ofZ}
 use mir.Facts.{toZ-ofZ, toZ-pos}
 use borrow.Author.Tests.{ltb-true}
 use borrow.Author.Needs.{needs}
-use Rattle.theory.specs.Basics.{ℕ, suc, _+_, _-_, _^_, ℤ, pos, negsuc, natAbs}
+use Rattle.theory.specs.Basics.{ℕ, suc, _-_, _^_, ℤ, pos, negsuc, natAbs}
 use Rattle.tabletext.proofs.text.size.Statement.{statement}
 use Rattle.tabletext.proofs.text.size.Tie as tie
 use Rattle.tabletext.proofs.text.size.Reads as reads

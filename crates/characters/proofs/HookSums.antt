@@ -1,5 +1,5 @@
--- The walk over the hooks of a word s by its marks, for any values of the words that they leave. The sum so far and what
--- the marks that are left count come to the whole sum; a budget that falls keeps the sum so far within 64 bits.
+-- The walk over the hooks of a word s by its marks, for any values of the words that they leave. The sum so far and
+-- what the marks that are left count come to the whole sum; a budget that falls keeps the sum so far within 64 bits.
 --   counts b                what the hook that begins at place b counts, with its sign
 --   Walk                    what a walk goes by: no value is above 16! in size
 --   Walked left so-far      a walk, the marks `left` still to come

@@ -107,7 +107,8 @@ module _ (cycle x class : ℕ) (lent : List ℕ) where
     pub small : markedHook cycle (lineShape x) (31 - z) .leaves < 2 ^ 31
     pub room : natAbs settled + 1 < 2 ^ 63
     pub goes : markedHook cycle (lineShape x) (31 - z) .leaves ≡ 0 → Stripping (left - one) strip count
-        (carried (settled +ℤ signed (multiplied (lineMinus x) (markedHook cycle (lineShape x) (31 - z) .minus)) (pos 1)))
+        (carried
+        (settled +ℤ signed (multiplied (lineMinus x) (markedHook cycle (lineShape x) (31 - z) .minus)) (pos 1)))
     pub inside : (markedHook cycle (lineShape x) (31 - z) .leaves ≡ 0 → ⊥) → count < length strip
     pub stays : (markedHook cycle (lineShape x) (31 - z) .leaves ≡ 0 → ⊥)
         → Stripping (left - one) (set strip count (lineAt cycle x class (31 - z))) (count + 1) settled

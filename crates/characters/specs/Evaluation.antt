@@ -1,6 +1,6 @@
 -- What the private functions of evaluation are asked.
 --   Fit shape cycles    a good shape word, and the cycles of a class of the same degree within the limit
---   hookSum value h w   the signed sum over the hooks of length h of the word w: each counts the value of what it leaves
+--   hookSum value h w   the signed sum over the hooks of length h of the word w, each the value of what it leaves
 use mathlib.Core.Path.{_≡_}
 use Prim.Native.Nat.{_≤_, _<_}
 use Rattle.theory.specs.Basics.{ℕ, _^_, ℤ, sum}

@@ -1,5 +1,5 @@
--- `characters::column` meets its contract: the class is judged by its degree and the room by the count of partitions, and
--- the parts of the class word are the cycles whose column is written.
+-- `characters::column` meets its contract: the class is judged by its degree and the room by the count of partitions,
+-- and the parts of the class word are the cycles whose column is written.
 use mathlib.Core.Path.{_≡_, refl, sym}
 use native.Mathlib.Omega.{arith}
 use lib.Seq.{length-take-le}

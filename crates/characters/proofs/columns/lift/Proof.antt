@@ -60,7 +60,8 @@ start-requires-2 c κs = search needs
 loop-holds : tie.Need-loop-holds Inv-loop μ-loop
 loop-holds c =
     let begin = c .before .before .before .before .before .before in
-    rw (c .start2 .ensures ∙ starts _ (omega (arith, small begin)) ∙ struck begin .starts) (lift-start _ _ _ (begin .pre .1 .1 .1))
+    rw (c .start2 .ensures ∙ starts _ (omega (arith, small begin)) ∙ struck begin .starts)
+    (lift-start _ _ _ (begin .pre .1 .1 .1))
 
 mul-word : tie.Need-mul-word Inv-loop μ-loop
 mul-word c = omega (arith, turn c .inside)
@@ -103,7 +104,8 @@ returns : tie.Need-returns Inv-loop μ-loop
 returns c =
     let begin = c .before .before .before .before .before .before .before .before in
     let s = struck begin in
-    let past = c .before .before .before .start .ensures ∙ starts (begin .args .degree + 1) (omega (arith, small begin)) in
+    let n = begin .args .degree in
+    let past = c .before .before .before .start .ensures ∙ starts (n + 1) (omega (arith, small begin)) in
     rw (s .whole) (lift-end _ _ _ _ (omega (arith, s .ends, c .loop-test .left)) (c .before .loop .inv))
 
 pub lift-spec : {M : Type 1} → statement M

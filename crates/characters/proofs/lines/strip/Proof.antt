@@ -47,8 +47,8 @@ leaves-is c =
     c .before .before .leaves .ensures
     ∙ ap (λ (s : ℕ). markedHook (a .cycle) s (place c) .leaves) (marked .before .before .shape .ensures)
 
-sign-is : (c : tie.After-product Inv-loop μ-loop)
-    → c .product .result ≡ multiplied (lineMinus (start (c .before .before .before .before) .args .line)) (hook c .minus)
+sign-is : (c : tie.After-product Inv-loop μ-loop) → let x = start (c .before .before .before .before) .args .line in
+    c .product .result ≡ multiplied (lineMinus x) (hook c .minus)
 sign-is c =
     let marked = c .before .before .before .before .before in
     let a = start (c .before .before .before .before) .args in

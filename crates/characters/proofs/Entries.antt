@@ -13,10 +13,10 @@ use Rattle.theory.specs.Partition.{Parts, degree}
 use Rattle.theory.specs.ShapeWord.{shapeWord}
 use Rattle.theory.specs.ShapeWord.Words.{word-back, small-fits}
 use Rattle.theory.specs.Character.{_on_}
-use Rattle.theory.specs.Listing.{listing, column}
+use Rattle.theory.specs.Listing.{listing, column, start}
 use Rattle.theory.specs.Listing.Columns.{column-length, column-at}
 use Rattle.theory.specs.Listing.Ranks.{at-rank}
-use Rattle.theory.specs.Listing.Words.{start, start-within, word-at, word-ranked}
+use Rattle.theory.specs.Listing.Words.{start-within, word-at, word-ranked}
 use Rattle.theory.specs.Refusals.{degreeLimit}
 use Rattle.listing.specs.Calls.{shapeWords}
 use Rattle.characters.specs.Columns.{entry, entries, Cycles, Kept}

@@ -24,7 +24,8 @@ use Rattle.theory.specs.Character.{_on_}
 use Rattle.theory.specs.Hooks.{hookWords, signed}
 use Rattle.theory.specs.Hooks.Words.{Left, hooks-leave}
 use Rattle.theory.specs.Bounds.{factorial}
-use Rattle.theory.specs.Listing.Words.{Ranked, start, start-rises, index, ranked-at}
+use Rattle.theory.specs.Listing.{start}
+use Rattle.theory.specs.Listing.Words.{Ranked, start-rises, index, ranked-at}
 use Rattle.theory.specs.Refusals.{degreeLimit}
 use Rattle.theory.specs.Refusals.Laws.{Within}
 use Rattle.words.proofs.PartLists.{next-left, degree-left}

@@ -7,8 +7,7 @@ use borrow.Author.Tests.{leb-true}
 use Rattle.theory.specs.Basics.{true, List, [], _∷_, map, ℕ, suc, _+_, _*_, _/_, _%_, _^_, getD, _≤?_, every, length}
 use Rattle.theory.specs.Basics.Places.{every-at, map-at, tabled, tabled-at}
 use Rattle.theory.specs.Digits.{word}
-use Rattle.theory.specs.Listing.{listing, partitions}
-use Rattle.theory.specs.Listing.Words.{wordsBelow}
+use Rattle.theory.specs.Listing.{listing, partitions, wordsBelow}
 use Rattle.theory.specs.Listing.Words.{index}
 use Rattle.theory.specs.Refusals.{degreeLimit}
 use Rattle.theory.specs.Refusals.Laws.{Within}

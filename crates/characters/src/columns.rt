@@ -17,14 +17,6 @@ use super::evaluation;
 use super::hooks;
 use super::lookup;
 
-// How many partitions a degree has.
-pub fn count(degree: u32) -> usize
-    requires { ⌜ degree ≤ degreeLimit ⌝ }
-    ensures { λ r. ⌜ r ≡ length (listing degree) ⌝ }
-{
-    listing::start(degree + 1) - listing::start(degree)
-}
-
 // What a table has for a shape word.
 fn look(table: &[i64], places: &[u16], word: u32) -> i64
     requires { ⌜ (length (now table) ≡ placeCount) × (now places ≡ placeTable) × (word < 2 ^ 30) ⌝ }
@@ -58,8 +50,9 @@ fn lift(table: &mut [i64], words: &[u32], places: &[u16], cycles: &[u8], i: usiz
     ensures { λ _. ⌜ Kept (now (table .exit)) (drop i (now (cycles .entry))) ⌝ }
 {
     let cycle = cycles[i] as u32;
-    let end = listing::start(degree + 1);
-    let mut at = listing::start(degree);
+    let section = listing::section(degree);
+    let end = section.start + section.count;
+    let mut at = section.start;
     while at < end {
         let word = words[at];
         let number = hook_sum(table, places, word, cycle);
@@ -89,8 +82,9 @@ fn put(table: &[i64], words: &[u32], places: &[u16], degree: u32, values: &mut [
     requires { ⌜ (degree ≤ degreeLimit) × (length (listing degree) ≤ length (now values)) ⌝ }
     ensures { λ _. ⌜ now (values .exit) ≡ atFront (entries (now (table .entry)) degree) (now (values .entry)) ⌝ }
 {
-    let start = listing::start(degree);
-    let count = count(degree);
+    let section = listing::section(degree);
+    let start = section.start;
+    let count = section.count;
     let mut i = 0;
     while i < count {
         let number = look(table, places, words[start + i]);

@@ -146,7 +146,7 @@ pub fn column(class: u32, values: &mut [i64]) -> CountAnswer
         };
     }
     let degree = of_class.number as u32;
-    let count = columns::count(degree);
+    let count = listing::section(degree).count;
     if values.len() < count {
         return CountAnswer {
             refused: 14,

@@ -4,27 +4,52 @@ use mathlib.Core.Path.{_≡_, refl, sym, _∙_, ap}
 use Prim.Native.Nat.{_≤_, _<_}
 use native.Mathlib.Decide.{ℕ-discrete}
 use native.Mathlib.Omega.{arith}
-use borrow.Author.Tests.{le-leb}
-use Rattle.theory.specs.Basics.{ℕ, suc, _+_, getD, length}
+use borrow.Author.Tests.{le-ltb, ltb-true, ltb-false}
+use Rattle.theory.specs.Basics.{Bool, true, false, ℕ, suc, _+_, getD, length, _<?_}
 use Rattle.theory.specs.Partition.{degree}
 use Rattle.theory.specs.ShapeWord.{shapeOf}
-use Rattle.theory.specs.Listing.{listing, partitions, rank}
-use Rattle.theory.specs.Listing.Words.{wordsBelow, start, start-next, start-within, word-at, word-ranked}
+use Rattle.theory.specs.Listing.{listing, partitions, rank, wordsBelow, start}
+use Rattle.theory.specs.Listing.Words.{start-next, start-within, word-at, word-ranked}
 use Rattle.theory.specs.Listing.Words.{Indexed, indexed}
 use Rattle.theory.specs.Refusals.{degreeLimit}
 use Rattle.theory.specs.Refusals.Laws.{Within}
-use Rattle.listing.specs.Calls.{shapeWords, wordsBefore}
+use Rattle.listing.specs.declared.SectionAnswer.{SectionAnswer}
+use Rattle.listing.specs.Calls.{shapeWords, sectionAnswer, sectionOf}
 
 pub shapeWords-length : length shapeWords ≡ 915
 unfolding wordsBelow listing partitions
 shapeWords-length = refl
 
-pub starts : (n : ℕ) → n ≤ suc degreeLimit → wordsBefore degreeLimit n ≡ start n
-starts n h = elim (ℕ-discrete n (suc degreeLimit)) [
-  | yes e ↦ rw e refl
-  | no f ↦ rw (le-leb n degreeLimit (omega arith))
-]
+-- ---- the section of a degree
+module _ (n : ℕ) (r : SectionAnswer) (e : r ≡ sectionOf degreeLimit n) where
+  above : degreeLimit <? n ≡ true → r ≡ sectionAnswer 12 0 0
+  unfolding sectionOf
+  above t = rw t at e
 
+  within : degreeLimit <? n ≡ false → r ≡ sectionAnswer 0 (start n) (length (listing n))
+  unfolding sectionOf
+  within f = rw f at e
+
+  pub section-given : n ≤ degreeLimit → r ≡ sectionAnswer 0 (start n) (length (listing n))
+  section-given h = within (le-ltb degreeLimit n h)
+
+  pub section-small : r .refused ≡ 0 → n ≤ degreeLimit
+  section-small z = go (degreeLimit <? n) refl
+    where
+      go : (b : Bool) → degreeLimit <? n ≡ b → n ≤ degreeLimit
+      go true t =
+          let twelve = ap (λ (x : SectionAnswer). x .refused) (above t) in
+          absurd (omega arith)
+      go false f = ltb-false degreeLimit n f
+
+  pub section-refused : (r .refused ≡ 0 → ⊥) → (degreeLimit < n) × (r .refused ≡ 12)
+  section-refused z = go (degreeLimit <? n) refl
+    where
+      go : (b : Bool) → degreeLimit <? n ≡ b → (degreeLimit < n) × (r .refused ≡ 12)
+      go true t = (ltb-true degreeLimit n t, ap (λ (x : SectionAnswer). x .refused) (above t))
+      go false f = absurd (z (ap (λ (x : SectionAnswer). x .refused) (within f)))
+
+-- ---- indexes
 pub index-below : (n i : ℕ) → n ≤ degreeLimit → i < length (listing n) → start n + i < 915
 index-below n i h l = omega (arith, start-within (suc degreeLimit) n i (omega arith) l, shapeWords-length)
 

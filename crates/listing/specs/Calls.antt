@@ -1,26 +1,31 @@
 -- What the calls of the listing promise (document 01, "Listing", "Order").
 -- Each has the name of what it gives; `At` is of a degree n and a rank r. The limit on degrees comes first.
 --   wordsWithin limit     the words of all shapes within the limit, degree by degree, each degree in listing order
---   wordsBefore limit n   how many of them have a degree below n
 --   shapeWords            wordsWithin at document 01's limit
-use Rattle.theory.specs.Basics.{cond, [], _∷_, getD, List, ℕ, suc, pos, _≤?_}
+--   sectionOf limit n     where the words of degree n start among them, and how many they are
+--   listRows limit n r    what a degree and a rank are judged by
+use Rattle.theory.specs.Basics.{[], _∷_, getD, List, length, ℕ, suc, pos}
 use Rattle.theory.specs.ShapeWord.{shapeWord, shapeOf}
 use Rattle.theory.specs.ClassWord.{classWord, classOf}
-use Rattle.theory.specs.Listing.{listing, rank}
-use Rattle.theory.specs.Listing.Words.{wordsBelow, start}
-use Rattle.theory.specs.Refusals.{Row, degreeLimit, shapeRows, classRows, no-11, no-12}
+use Rattle.theory.specs.Listing.{listing, rank, wordsBelow, start}
+use Rattle.theory.specs.Refusals.{Row, firstOf, judged, degreeLimit, shapeRows, classRows, no-11, no-12}
+use Rattle.listing.specs.declared.SectionAnswer.{SectionAnswer}
 use Rattle.words.specs.declared.WordAnswer.{WordAnswer}
 use Rattle.words.specs.declared.NumberAnswer.{NumberAnswer}
 use Rattle.words.specs.Answers.{worded, numbered}
+
+abbrev pub sectionAnswer : ℕ → ℕ → ℕ → SectionAnswer
+sectionAnswer k start count = record { refused = k; start = start; count = count }
 
 module _ (limit : ℕ) where
   abbrev pub wordsWithin : List ℕ
   wordsWithin = wordsBelow (suc limit)
 
-  abbrev pub wordsBefore : ℕ → ℕ
-  wordsBefore n = cond (n ≤? limit) (start n) (start (suc limit))
+  unfoldable pub sectionOf : ℕ → SectionAnswer
+  sectionOf n =
+      judged (firstOf (no-12 limit n ∷ [])) (λ k. sectionAnswer k 0 0) (sectionAnswer 0 (start n) (length (listing n)))
 
-  abbrev listRows : ℕ → ℕ → List Row
+  abbrev pub listRows : ℕ → ℕ → List Row
   listRows n r = no-12 limit n ∷ no-11 r (listing n) ∷ []
 
   unfoldable pub shapeAt : ℕ → ℕ → WordAnswer

@@ -1,20 +1,25 @@
 // The listing of partitions (document 01, "Listing"): a degree and a rank give a partition, as either word, and either
 // word gives its rank. Every call takes every input; a refused word or number is 0.
 ghost use mathlib.Core.Path.{_≡_};
-ghost use Prim.Native.Nat.{_≤_};
-ghost use Rattle.theory.specs.Basics.{length};
 ghost use Rattle.theory.specs.Partition.{degree as degreeOf};
 ghost use Rattle.theory.specs.ShapeWord.{shapeOf};
-ghost use Rattle.theory.specs.Listing.{listing, rank as rankOf};
+ghost use Rattle.theory.specs.Listing.{rank as rankOf};
 ghost use Rattle.theory.specs.Refusals.{degreeLimit};
 ghost use Rattle.theory.specs.Refusals.Laws.{Within};
-ghost use Rattle.listing.specs.Calls.{shapeWords, wordsWithin, wordsBefore};
+ghost use Rattle.listing.specs.Calls.{shapeWords, wordsWithin, sectionOf};
 ghost use Rattle.listing.specs.Calls.{shapeAt, classAt, shapeRank, classRank};
 use tables::COUNTS;
 use tables::STARTS;
 use tables::WORDS;
 
 mod tables;
+
+// The words of one degree among those of all degrees.
+pub struct SectionAnswer {
+    pub refused: u8,
+    pub start: usize,
+    pub count: usize,
+}
 
 // The shape words of the degrees 0 to 16, degree by degree, each degree in listing order.
 pub fn shape_words() -> [u32; 915]
@@ -23,44 +28,44 @@ pub fn shape_words() -> [u32; 915]
     WORDS
 }
 
-// Where the words of a degree start among them: how many have a smaller degree. Above 16 it is all of them.
-pub fn start(degree: u32) -> usize
-    ensures { λ r. ⌜ r ≡ wordsBefore degreeLimit degree ⌝ }
+// Where the words of a degree start among them, and how many they are. Refuses 12.
+pub fn section(degree: u32) -> SectionAnswer
+    ensures { λ r. ⌜ r ≡ sectionOf degreeLimit degree ⌝ }
 {
     if words::LIMIT < degree {
-        return 915;
+        return SectionAnswer {
+            refused: 12,
+            start: 0,
+            count: 0,
+        };
     }
     let n = degree as usize;
-    STARTS[n]
-}
-
-// How many partitions a degree has.
-fn count(degree: u32) -> u32
-    requires { ⌜ degree ≤ degreeLimit ⌝ }
-    ensures { λ r. ⌜ r ≡ length (listing degree) ⌝ }
-{
-    let n = degree as usize;
-    COUNTS[n]
+    SectionAnswer {
+        refused: 0,
+        start: STARTS[n],
+        count: COUNTS[n],
+    }
 }
 
 // The shape word of a rank. Refuses 12, then 11.
 pub fn shape_at(degree: u32, rank: u32) -> words::WordAnswer
     ensures { λ r. ⌜ r ≡ shapeAt degreeLimit degree rank ⌝ }
 {
-    if words::LIMIT < degree {
+    let section = section(degree);
+    if section.refused != 0 {
         return words::WordAnswer {
-            refused: 12,
+            refused: section.refused,
             word: 0,
         };
     }
-    if count(degree) <= rank {
+    if section.count <= rank as usize {
         return words::WordAnswer {
             refused: 11,
             word: 0,
         };
     }
     let words = shape_words();
-    let i = start(degree) + rank as usize;
+    let i = section.start + rank as usize;
     words::WordAnswer {
         refused: 0,
         word: words[i],
@@ -87,7 +92,7 @@ fn search(words: &[u32], word: u32, degree: u32) -> u32
     requires { ⌜ (now words ≡ shapeWords) × Within degreeLimit word × (degree ≡ degreeOf (shapeOf word)) ⌝ }
     ensures { λ r. ⌜ r ≡ rankOf (shapeOf word) ⌝ }
 {
-    let start = start(degree);
+    let start = section(degree).start;
     let mut rank = 0u32;
     while words[start + rank as usize] != word {
         rank += 1;

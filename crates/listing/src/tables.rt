@@ -1,7 +1,7 @@
 // The tables of the listing. Made by tools/tables.py; lib.rt says what each has, and is proved.
 
 // How many partitions each degree has.
-pub const COUNTS: [u32; 17] = [
+pub const COUNTS: [usize; 17] = [
     1,
     1,
     2,

@@ -2,13 +2,16 @@
 --   partitions k most n   the partitions of n into at most k parts, none above most: the first part goes down from most
 --   listing n             all partitions of n, in decreasing lexicographic order
 --   Before l m            decreasing lexicographic order: at the first place where they differ, l has the larger part
---   rank ps               how many stand before ps in the listing of its degree
+--   rank ps               how many stand before ps in the listing of its degree; rankIn ps list, in any list
 --   partitionCounts       how many partitions the degrees 0 to 16 have, a list of constants
 --   column class          the values of a class for all shapes of its degree, in listing order
+--   wordsBelow m          the words of all shapes of the degrees below m, degree by degree, each degree in listing order
+--   start n               where the words of degree n start there, for any m above n
 use Prim.Native.Nat.{_<_}
-use Rattle.theory.specs.Basics.{Bool, true, false, cond, _&&_, List, [], _∷_, map}
+use Rattle.theory.specs.Basics.{Bool, true, false, cond, _&&_, List, [], _∷_, _++_, map, length}
 use Rattle.theory.specs.Basics.{ℕ, zero, suc, _-_, ℤ, _=?_, _≤?_, keep, joined, downFrom}
 use Rattle.theory.specs.Partition.{Parts, degree}
+use Rattle.theory.specs.ShapeWord.{shapeWord}
 use Rattle.theory.specs.Character.{_on_}
 pub mod Laws
 pub mod Order
@@ -50,3 +53,10 @@ rank ps = rankIn ps (listing (degree ps))
 
 unfoldable pub column : Parts → List ℤ
 column class = map (_on class) (listing (degree class))
+
+unfoldable pub wordsBelow : ℕ → List ℕ
+wordsBelow zero = []
+wordsBelow (suc n) = wordsBelow n ++ map shapeWord (listing n)
+
+abbrev pub start : ℕ → ℕ
+start n = length (wordsBelow n)

@@ -1,6 +1,6 @@
 -- `characters::column` meets its contract: the class is judged by its degree and the room by the count of partitions,
 -- and the parts of the class word are the cycles whose column is written.
-use mathlib.Core.Path.{_≡_, refl, sym}
+use mathlib.Core.Path.{_≡_, refl, sym, ap}
 use native.Mathlib.Omega.{arith}
 use lib.Seq.{length-take-le}
 use borrow.Author.Needs.{needs}
@@ -9,6 +9,8 @@ use Rattle.theory.specs.Partition.{degree}
 use Rattle.theory.specs.ClassWord.{classOf}
 use Rattle.theory.specs.Listing.{listing}
 use Rattle.words.proofs.Callers.{FrontGiven}
+use Rattle.listing.specs.declared.SectionAnswer.{SectionAnswer}
+use Rattle.listing.proofs.Indexes.{section-given}
 use Rattle.characters.specs.Columns.{Cycles}
 use Rattle.characters.proofs.Signed.{carried}
 use Rattle.characters.proofs.ColumnAnswers.{refused-class, good-cycles, degree-read, parts-read}
@@ -25,13 +27,15 @@ cycles c = good-cycles _ _ (c .before .before .degree .ensures) (c .if1 .left)
 read : (c : tie.Else1) → carried (c .before .before .degree .result .number) ≡ pos (degree (classOf (class c)))
 read c = degree-read _ _ (c .before .before .degree .ensures) (c .if1 .left)
 
-abbrev accepted : tie.After-count → tie.Else1
+abbrev accepted : tie.After-section → tie.Else1
 accepted c = c .before .before .before
 
-counted : (c : tie.After-count) → c .count .result ≡ length (listing (degree (classOf (class (accepted c)))))
-counted c = rw (read (accepted c)) at (c .count .ensures)
+counted : (c : tie.After-section) → c .section .result .count ≡ length (listing (degree (classOf (class (accepted c)))))
+counted c =
+    let section = rw (read (accepted c)) at (c .section .ensures) in
+    ap (λ (x : SectionAnswer). x .count) (section-given _ _ section (cycles (accepted c) .small))
 
-abbrev judged : tie.After-parts2 → tie.After-count
+abbrev judged : tie.After-parts2 → tie.After-section
 judged c = c .before .before .before
 
 front : (c : tie.After-parts2)
@@ -53,10 +57,8 @@ cast-degree c =
     let else1 = c .before .before in
     rw (read else1) (tt, omega (arith, cycles else1 .small))
 
-count-requires : tie.Need-count-requires
-count-requires c κs =
-    let else1 = c .before .before in
-    rw (read else1) (cycles else1 .small)
+section-requires : tie.Need-section-requires
+section-requires c κs = search needs
 
 returns-2 : tie.Need-returns-2
 returns-2 c =
@@ -103,7 +105,7 @@ column-spec =
     degree-requires
     returns
     cast-degree
-    count-requires
+    section-requires
     returns-2
     slice-aggregate-parts
     parts-requires

@@ -7,10 +7,11 @@ use borrow.Author.Needs.{needs}
 use Rattle.theory.specs.Basics.{List, ℕ, _+_, getD, length}
 use Rattle.theory.specs.Partition.{degree}
 use Rattle.theory.specs.ShapeWord.{shapeOf}
-use Rattle.theory.specs.Listing.{rank}
-use Rattle.theory.specs.Listing.Words.{start}
+use Rattle.theory.specs.Listing.{rank, start}
+use Rattle.theory.specs.Refusals.{degreeLimit}
+use Rattle.listing.specs.declared.SectionAnswer.{SectionAnswer}
 use Rattle.listing.specs.Calls.{shapeWords}
-use Rattle.listing.proofs.Indexes.{shapeWords-length, starts, rank-inside, rank-found, rank-ahead}
+use Rattle.listing.proofs.Indexes.{shapeWords-length, section-given, rank-inside, rank-found, rank-ahead}
 use Rattle.listing.proofs.search.Statement.{statement}
 use Rattle.listing.proofs.search.Tie as tie
 
@@ -20,26 +21,28 @@ Inv-loop words word n from i₀ i = i ≤ rank (shapeOf word)
 abbrev μ-loop : tie.MeasureT-loop
 μ-loop words word n from i₀ i = rank (shapeOf word) - i
 
-start-requires : tie.Need-start-requires Inv-loop μ-loop
-start-requires c κs = search needs
+section-requires : tie.Need-section-requires Inv-loop μ-loop
+section-requires c κs = search needs
 
 loop-holds : tie.Need-loop-holds Inv-loop μ-loop
 loop-holds c = search needs
 
 from : (c : tie.At-loop Inv-loop μ-loop)
-    → c .before .start .result ≡ start (degree (shapeOf (c .before .before .before .args .word)))
+    → c .before .section .result .start ≡ start (degree (shapeOf (c .before .before .before .args .word)))
 from c =
     let begin = c .before .before .before in
-    c .before .start .ensures ∙ starts _ (omega (arith, begin .pre .2, begin .pre .1 .small)) ∙ ap start (begin .pre .2)
+    let small : begin .args .degree ≤ degreeLimit = omega (arith, begin .pre .2, begin .pre .1 .small) in
+    let section = section-given _ (c .before .section .result) (c .before .section .ensures) small in
+    ap (λ (x : SectionAnswer). x .start) section ∙ ap start (begin .pre .2)
 
-inside : (c : tie.At-loop Inv-loop μ-loop) → c .before .start .result + c .loop .rank < 915
+inside : (c : tie.At-loop Inv-loop μ-loop) → c .before .section .result .start + c .loop .rank < 915
 inside c =
     let begin = c .before .before .before in
     omega (arith, from c, rank-inside (begin .args .word) (c .loop .rank) (begin .pre .1) (c .loop .inv))
 
 read : (c : tie.At-loop Inv-loop μ-loop)
     → let begin = c .before .before .before in
-    getD (begin .args .words .now) (c .before .start .result + c .loop .rank) 0
+    getD (begin .args .words .now) (c .before .section .result .start + c .loop .rank) 0
     ≡ getD shapeWords (start (degree (shapeOf (begin .args .word))) + c .loop .rank) 0
 read c = ap₂ (λ (l : List ℕ) (k : ℕ). getD l (k + c .loop .rank) 0) (c .before .before .before .pre .0) (from c)
 
@@ -84,7 +87,7 @@ search-spec =
     (tie.spec
     Inv-loop
     μ-loop
-    start-requires
+    section-requires
     loop-holds
     cast-if1
     add-if1

@@ -1,69 +1,95 @@
 -- listing::shape_at meets its contract: the words of a degree stand from its start on, in listing order.
-use mathlib.Core.Path.{_≡_, _∙_, ap₂}
-use Prim.Native.Nat.{_<_}
+use mathlib.Core.Path.{_≡_, _∙_, ap, ap₂}
+use Prim.Native.Nat.{_≤_, _<_}
 use native.Mathlib.Omega.{arith}
 use borrow.Author.Needs.{needs}
-use Rattle.theory.specs.Basics.{List, ℕ, suc, _+_, getD}
-use Rattle.theory.specs.Listing.Words.{start, word-at}
+use Rattle.theory.specs.Basics.{List, ℕ, suc, _+_, getD, length}
+use Rattle.theory.specs.Listing.{listing, start}
+use Rattle.theory.specs.Listing.Words.{word-at}
 use Rattle.theory.specs.Refusals.{degreeLimit}
 use Rattle.words.proofs.Answers.{word-refused, word-given}
-use Rattle.listing.specs.Calls.{shapeAt}
-use Rattle.listing.proofs.Indexes.{index-below, starts}
+use Rattle.listing.specs.declared.SectionAnswer.{SectionAnswer}
+use Rattle.listing.specs.Calls.{sectionAnswer, shapeAt}
+use Rattle.listing.proofs.Indexes.{section-refused, section-small, section-given, index-below}
 use Rattle.listing.proofs.Ranks.{rows, Listed, degree-refused, rank-refused, none-refused}
 use Rattle.listing.proofs.shape_at.Statement.{statement}
 use Rattle.listing.proofs.shape_at.Tie as tie
 
+section-requires : tie.Need-section-requires
+section-requires c κs = search needs
+
 returns : tie.Need-returns
 unfolding shapeAt
 returns c =
-    let a = c .before .args in
-    let refuses = degree-refused (a .degree) (a .rank) (omega arith) in
-    word-refused (rows (a .degree) (a .rank)) _ 12 refuses (λ z. omega arith)
+    let a = c .before .before .before .args in
+    let s = c .before .before .section in
+    let above = section-refused (a .degree) (s .result) (s .ensures) (c .if1 .taken) in
+    word-refused (rows (a .degree) (a .rank)) _ (s .result .refused)
+    (above .1 ∙ degree-refused (a .degree) (a .rank) (above .0)) (λ z. c .if1 .taken z)
 
-count-requires : tie.Need-count-requires
-count-requires c κs = search needs
+-- the section of a degree that was not refused
+small : (c : tie.Else1) → c .before .before .before .args .degree ≤ degreeLimit
+small c =
+    let s = c .before .before .section in
+    section-small (c .before .before .before .args .degree) (s .result) (s .ensures) (c .if1 .left)
+
+given : (c : tie.Else1) → let n = c .before .before .before .args .degree in
+    c .before .before .section .result ≡ sectionAnswer 0 (start n) (length (listing n))
+given c =
+    let s = c .before .before .section in
+    section-given (c .before .before .before .args .degree) (s .result) (s .ensures) (small c)
+
+counted : (c : tie.Else1) → let n = c .before .before .before .args .degree in
+    c .before .before .section .result .count ≡ length (listing n)
+counted c = ap (λ (x : SectionAnswer). x .count) (given c)
+
+starts : (c : tie.Else1) → let n = c .before .before .before .args .degree in
+    c .before .before .section .result .start ≡ start n
+starts c = ap (λ (x : SectionAnswer). x .start) (given c)
 
 returns-2 : tie.Need-returns-2
 unfolding shapeAt
 returns-2 c =
-    let a = c .before .before .before .args in
-    let refuses = rank-refused (a .degree) (a .rank) (omega arith) (omega (arith, c .before .count .ensures)) in
+    let else1 = c .before .before in
+    let a = else1 .before .before .before .args in
+    let refuses = rank-refused (a .degree) (a .rank) (small else1) (omega (arith, counted else1)) in
     word-refused (rows (a .degree) (a .rank)) _ 11 refuses (λ z. omega arith)
 
 shape-words-requires : tie.Need-shape-words-requires
 shape-words-requires c κs = search needs
 
-start-requires : tie.Need-start-requires
-start-requires c κs = search needs
+abbrev passed : tie.After-struct-known3 → tie.Else1
+passed c = c .before .before .before .before
 
-known : (c : tie.After-start) → let a = c .before .before .before .before .before .args in
+known : (c : tie.After-struct-known3) → let a = passed c .before .before .before .args in
     Listed (a .degree) (a .rank)
-known c = record { small = omega arith; within = omega (arith, c .before .before .before .count .ensures) }
+known c = record {
+  small = small (passed c);
+  within = omega (arith, counted (passed c), c .before .before .if2 .left);
+}
 
-from : (c : tie.After-start) → c .start .result ≡ start (c .before .before .before .before .before .args .degree)
-from c = c .start .ensures ∙ starts _ (omega (arith, known c .small))
-
-inside : (c : tie.After-start) → c .start .result + c .before .before .before .before .before .args .rank < 915
+inside : (c : tie.After-struct-known3) → let s = passed c .before .before in
+    s .section .result .start + s .before .args .rank < 915
 inside c =
-    let a = c .before .before .before .before .before .args in
-    omega (arith, index-below (a .degree) (a .rank) (known c .small) (known c .within), from c)
+    let a = passed c .before .before .before .args in
+    omega (arith, index-below (a .degree) (a .rank) (known c .small) (known c .within), starts (passed c))
 
 add-i : tie.Need-add-i
 add-i c = omega (arith, inside c)
 
-mul-t8 : tie.Need-mul-t8
-mul-t8 c = omega (arith, inside c)
+mul-t7 : tie.Need-mul-t7
+mul-t7 c = omega (arith, inside c)
 
-array-read-t6 : tie.Need-array-read-t6
-array-read-t6 c = inside c
+array-read-t11 : tie.Need-array-read-t11
+array-read-t11 c = inside c
 
 returns-3 : tie.Need-returns-3
 unfolding shapeAt
 returns-3 c =
-    let a = c .before .before .before .before .before .args in
+    let a = passed c .before .before .before .args in
     let k = known c in
     let read =
-    ap₂ (λ (l : List ℕ) (i : ℕ). getD l (i + a .rank) 0) (c .before .shape-words .ensures) (from c)
+    ap₂ (λ (l : List ℕ) (i : ℕ). getD l (i + a .rank) 0) (c .before .shape-words .ensures) (starts (passed c))
     ∙ word-at (suc degreeLimit) (a .degree) (a .rank) (omega (arith, k .small)) (k .within) in
     word-given (rows (a .degree) (a .rank)) _ _ (none-refused (a .degree) (a .rank) (k .small) (k .within)) read
 
@@ -71,12 +97,11 @@ pub shape-at-spec : {M : Type 1} → statement M
 shape-at-spec =
     tie.close
     (tie.spec
+    section-requires
     returns
-    count-requires
     returns-2
     shape-words-requires
-    start-requires
     add-i
-    mul-t8
-    array-read-t6
+    mul-t7
+    array-read-t11
     returns-3)

@@ -1,8 +1,7 @@
 -- listing::shape_words meets its contract: the listings and their words are computed.
 use mathlib.Core.Path.{refl}
 use Rattle.theory.specs.Digits.{word}
-use Rattle.theory.specs.Listing.{listing, partitions}
-use Rattle.theory.specs.Listing.Words.{wordsBelow}
+use Rattle.theory.specs.Listing.{listing, partitions, wordsBelow}
 use Rattle.listing.proofs.shape_words.Statement.{statement}
 use Rattle.listing.proofs.shape_words.Tie as tie
 

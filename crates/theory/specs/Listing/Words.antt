@@ -1,8 +1,6 @@
 -- Shape words along the listing, and the words of all shapes of small degrees in one list.
 --   Ranked n i w   w is a good shape word, of degree n, and the rank of its shape is i
---   wordsBelow m   the words of the shapes of the degrees below m, degree by degree, each degree in listing order
---   start n        where degree n starts there, for any m above n
---   index w        where w stands there, if it is good and the degree of its shape is below m
+--   index w        where w stands in wordsBelow m, if it is good and the degree of its shape is below m
 use mathlib.Core.Path.{_≡_, refl, _∙_, ap}
 use Prim.Native.Nat.{_≤_, _<_}
 use native.Mathlib.Nat.{le-refl}
@@ -17,7 +15,7 @@ use Rattle.theory.specs.Digits.{width}
 use Rattle.theory.specs.ShapeWord.{shapeWord, shapeOf, goodShape}
 use Rattle.theory.specs.ShapeWord.Words.{the-word, the-shape, small-fits}
 use Rattle.theory.specs.Refusals.{degreeLimit}
-use Rattle.theory.specs.Listing.{listing, rank, partitionCounts}
+use Rattle.theory.specs.Listing.{listing, rank, partitionCounts, wordsBelow, start}
 use Rattle.theory.specs.Listing.Laws.{count-kept}
 use Rattle.theory.specs.Listing.Ranks.{at-rank, listed}
 
@@ -39,13 +37,6 @@ word-ranked n i h l =
     }
 
 -- ---- all degrees
-unfoldable pub wordsBelow : ℕ → List ℕ
-wordsBelow zero = []
-wordsBelow (suc n) = wordsBelow n ++ map shapeWord (listing n)
-
-abbrev pub start : ℕ → ℕ
-start n = length (wordsBelow n)
-
 pub start-next : (n : ℕ) → start (suc n) ≡ start n + length (listing n)
 unfolding wordsBelow
 start-next n = simp (length-append, length-map)

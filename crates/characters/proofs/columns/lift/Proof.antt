@@ -1,14 +1,17 @@
 -- `characters::columns::lift` meets its contract: the words of the degree are done one after the other. Their hooks
 -- leave words of a lower degree, whose entries stay.
-use mathlib.Core.Path.{_≡_, _∙_}
+use mathlib.Core.Path.{_≡_, sym, _∙_, ap}
 use Prim.Native.Nat.{suc, _+_, _-_, _<_, _≤_}
 use native.Mathlib.Omega.{arith}
 use borrow.Author.Needs.{needs}
-use Rattle.theory.specs.Basics.{_∷_, drop, getD}
+use Rattle.theory.specs.Listing.{listing, start}
+use Rattle.theory.specs.Listing.Words.{start-next, start-rises}
+use Rattle.theory.specs.Basics.{_∷_, length, drop, getD}
 use Rattle.theory.specs.Partition.{degree}
-use Rattle.theory.specs.Listing.Words.{start}
 use Rattle.theory.specs.Refusals.{degreeLimit}
-use Rattle.listing.proofs.Indexes.{starts}
+use Rattle.listing.specs.declared.SectionAnswer.{SectionAnswer}
+use Rattle.listing.specs.Calls.{sectionAnswer}
+use Rattle.listing.proofs.Indexes.{section-given, shapeWords-length}
 use Rattle.characters.proofs.Lifts.{Cut, cut, Lifting, Turn, lift-start, lift-turn, lift-next, lift-end}
 use Rattle.characters.proofs.columns.lift.Statement.{statement}
 use Rattle.characters.proofs.columns.lift.Tie as tie
@@ -22,19 +25,29 @@ abbrev μ-loop : tie.MeasureT-loop
 abbrev begin : (c : tie.In-loop Inv-loop μ-loop) → tie.Start Inv-loop μ-loop
 begin c = c .before .before .before .before .before .before .before .before
 
+abbrev start-of : (c : tie.After-section Inv-loop μ-loop) → tie.Start Inv-loop μ-loop
+start-of c = c .before .before .before .before .before
+
 struck : (c : tie.Start Inv-loop μ-loop) → Cut (c .args .cycles .now) (c .args .i) (c .args .degree)
 struck c = cut _ _ _ (c .pre .1 .0 .0) (c .pre .1 .0 .1) (c .pre .1 .1 .0)
 
 small : (c : tie.Start Inv-loop μ-loop) → c .args .degree ≤ degreeLimit
 small c = omega (arith, c .pre .1 .0 .1, c .pre .1 .1 .0 .small)
 
-ends : (c : tie.In-loop Inv-loop μ-loop)
-    → c .before .before .before .start .result ≡ start (begin c .args .degree + 1)
-ends c = c .before .before .before .start .ensures ∙ starts _ (omega (arith, small (begin c)))
+given : (c : tie.After-section Inv-loop μ-loop) → let n = start-of c .args .degree in
+    c .section .result ≡ sectionAnswer 0 (start n) (length (listing n))
+given c = section-given _ (c .section .result) (c .section .ensures) (small (start-of c))
+
+ends : (c : tie.After-section Inv-loop μ-loop)
+    → c .section .result .start + c .section .result .count ≡ start (start-of c .args .degree + 1)
+ends c =
+    let n = start-of c .args .degree in
+    let next : suc n ≡ n + 1 = omega arith in
+    ap (λ (x : SectionAnswer). x .start + x .count) (given c) ∙ sym (start-next n) ∙ ap start next
 
 more : (c : tie.In-loop Inv-loop μ-loop) → let a = begin c .args in
     c .before .loop .at < start (suc (degree (getD (a .cycles .now) (a .i) 0 ∷ drop (a .i + 1) (a .cycles .now))))
-more c = omega (arith, struck (begin c) .ends, ends c)
+more c = omega (arith, struck (begin c) .ends, ends (c .before .before .before))
 
 turn : (c : tie.In-loop Inv-loop μ-loop) → let a = begin c .args in
     Turn (a .words .now) (c .before .loop .at) (getD (a .cycles .now) (a .i) 0)
@@ -48,19 +61,21 @@ cast-cycle c =
     let begin = c .before .before .before .before in
     omega (arith, struck begin .all .small)
 
-add-start : tie.Need-add-start Inv-loop μ-loop
-add-start c = search needs
+section-requires : tie.Need-section-requires Inv-loop μ-loop
+section-requires c κs = search needs
 
-start-requires : tie.Need-start-requires Inv-loop μ-loop
-start-requires c κs = search needs
+all : start 17 ≡ 915
+all = shapeWords-length
 
-start-requires-2 : tie.Need-start-requires-2 Inv-loop μ-loop
-start-requires-2 c κs = search needs
+add-end : tie.Need-add-end Inv-loop μ-loop
+add-end c =
+    let n = start-of (c .before) .args .degree in
+    omega (arith, ends (c .before), start-rises (n + 1) 17 (omega (arith, small (start-of (c .before)))), all)
 
 loop-holds : tie.Need-loop-holds Inv-loop μ-loop
 loop-holds c =
-    let begin = c .before .before .before .before .before .before in
-    rw (c .start2 .ensures ∙ starts _ (omega (arith, small begin)) ∙ struck begin .starts)
+    let begin = start-of (c .before) in
+    rw (ap (λ (x : SectionAnswer). x .start) (given (c .before)) ∙ struck begin .starts)
     (lift-start _ _ _ (begin .pre .1 .1 .1))
 
 mul-word : tie.Need-mul-word Inv-loop μ-loop
@@ -85,7 +100,7 @@ slice-set-from-number : tie.Need-slice-set-from-number Inv-loop μ-loop
 slice-set-from-number c = search needs
 
 add-at : tie.Need-add-at Inv-loop μ-loop
-add-at c = search needs
+add-at c = omega (arith, turn (c .before .before .before .before) .inside)
 
 loop-less : tie.Need-loop-less Inv-loop μ-loop
 loop-less c = search needs
@@ -102,11 +117,9 @@ same-length c = search needs
 
 returns : tie.Need-returns Inv-loop μ-loop
 returns c =
-    let begin = c .before .before .before .before .before .before .before .before in
-    let s = struck begin in
-    let n = begin .args .degree in
-    let past = c .before .before .before .start .ensures ∙ starts (n + 1) (omega (arith, small begin)) in
-    rw (s .whole) (lift-end _ _ _ _ (omega (arith, s .ends, c .loop-test .left)) (c .before .loop .inv))
+    let s = struck (start-of (c .before .before .before)) in
+    rw (s .whole)
+    (lift-end _ _ _ _ (omega (arith, s .ends, ends (c .before .before .before), c .loop-test .left)) (c .before .loop .inv))
 
 pub lift-spec : {M : Type 1} → statement M
 lift-spec =
@@ -116,9 +129,8 @@ lift-spec =
     μ-loop
     shared-slice-read-cycle
     cast-cycle
-    add-start
-    start-requires
-    start-requires-2
+    section-requires
+    add-end
     loop-holds
     mul-word
     shared-slice-read-word

@@ -11,7 +11,7 @@ use Rattle.theory.specs.Listing.{listing, column}
 module _ (class : Parts) where
   pub column-length : length (column class) ≡ length (listing (degree class))
   unfolding column
-  column-length = length-map (listing (degree class)) (_on class)
+  column-length = length-map (listing (degree class)) _
 
   pub column-at : (i : ℕ) → i < length (listing (degree class))
       → getD (column class) i (pos 0) ≡ getD (listing (degree class)) i [] on class

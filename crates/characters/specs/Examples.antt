@@ -1,5 +1,5 @@
 -- Examples to prove (document 01, "Examples to prove", E1 to E13): one table, and one theorem, by computation.
---   opened s c               the opening of s on c, on a page of two words that hold 7
+--   on-sevens s c            the opening of s on c, on a page of two words that hold 7
 --   strike cycle outcome     a step on line 0, the latest slip and page handed on
 --   after s c z l n page     accepted: settled z, l lines, n steps, and this page
 use mathlib.Core.Path.{_≡_, refl}
@@ -17,8 +17,8 @@ use Rattle.characters.specs.Sound.{soundLine, sound}
 use Rattle.characters.specs.Opening.{slipOf, handed, opening}
 use Rattle.characters.specs.Step.{nextLines, nextSlip, step}
 
-abbrev opened : List ℕ → List ℕ → Handed × List ℕ
-opened s c = opening degreeLimit (shapeWord s) (classWord c) (7 ∷ 7 ∷ [])
+abbrev on-sevens : List ℕ → List ℕ → Handed × List ℕ
+on-sevens s c = opening degreeLimit (shapeWord s) (classWord c) (7 ∷ 7 ∷ [])
 
 abbrev strike : ℕ → Handed × List ℕ → Handed × List ℕ
 strike cycle o = step degreeLimit (o .0 .slip) (o .1) 0 cycle
@@ -26,29 +26,35 @@ strike cycle o = step degreeLimit (o .0 .slip) (o .1) 0 cycle
 abbrev after : List ℕ → List ℕ → ℤ → ℕ → ℤ → List ℕ → Handed × List ℕ
 after s c settled lines steps page = (handed 0 (slipOf (shapeWord s) (classWord c) settled lines steps), page)
 
-abbrev 3-2 : List ℕ
-3-2 = 3 ∷ 2 ∷ []
+abbrev parts-3-2 : List ℕ
+parts-3-2 = 3 ∷ 2 ∷ []
 
-abbrev 2-1 : List ℕ
-2-1 = 2 ∷ 1 ∷ []
+abbrev parts-2-1 : List ℕ
+parts-2-1 = 2 ∷ 1 ∷ []
 
 pub record Examples : Type 0 where
-  pub E1 : shapeWord 3-2 ≡ 0x2C000000
+  pub E1 : shapeWord parts-3-2 ≡ 0x2C000000
   pub E2 : shapeWord (16 ∷ []) ≡ 0x3FFFC000
   pub E3 : shapeWord (replicate 16 1) ≡ 0x00004000
   pub E4 : firstOf (shapeRows degreeLimit 0x3FFFE000) ∷ firstOf (shapeRows degreeLimit 0x40000000) ∷ [] ≡ 2 ∷ 1 ∷ []
   pub E5 : classWord (5 ∷ 2 ∷ 2 ∷ 1 ∷ 1 ∷ 1 ∷ []) ≡ 0x05780000
   pub E6 : firstOf (classRows degreeLimit 0x50000000) ∷ firstOf (classRows degreeLimit 0x00004000) ∷ [] ≡ 3 ∷ 4 ∷ []
-  pub E7 : 3-2 on 3-2 ≡ pos 1
-  pub E8 : 3-2 on (4 ∷ 1 ∷ []) ≡ negsuc 0
-  pub E9 : 3-2 on (5 ∷ []) ≡ pos 0
-  pub E10 : 3-2 on replicate 5 1 ≡ pos 5
-  pub E11 : opened 3-2 3-2 ≡ after 3-2 3-2 (pos 0) 1 (pos 0) (0x2C00000014000000 ∷ 0 ∷ [])
-  pub E11-3 : strike 3 (opened 3-2 3-2) ≡ after 3-2 3-2 (pos 0) 1 (pos 1) (0x9000000020000000 ∷ 0 ∷ [])
-  pub E11-3-2 : strike 2 (strike 3 (opened 3-2 3-2)) ≡ after 3-2 3-2 (pos 1) 0 (pos 2) (0 ∷ 0 ∷ [])
-  pub E12-2 : strike 2 (opened 3-2 3-2) ≡ after 3-2 3-2 (pos 0) 1 (pos 1) (0x3800000010000000 ∷ 0 ∷ [])
-  pub E12-2-3 : strike 3 (strike 2 (opened 3-2 3-2)) ≡ after 3-2 3-2 (pos 1) 0 (pos 2) (0 ∷ 0 ∷ [])
-  pub E13 : strike 2 (opened 2-1 2-1) ≡ after 2-1 2-1 (pos 0) 0 (pos 1) (0 ∷ 0 ∷ [])
+  pub E7 : parts-3-2 on parts-3-2 ≡ pos 1
+  pub E8 : parts-3-2 on (4 ∷ 1 ∷ []) ≡ negsuc 0
+  pub E9 : parts-3-2 on (5 ∷ []) ≡ pos 0
+  pub E10 : parts-3-2 on replicate 5 1 ≡ pos 5
+  pub E11 : on-sevens parts-3-2 parts-3-2
+      ≡ after parts-3-2 parts-3-2 (pos 0) 1 (pos 0) (0x2C00000014000000 ∷ 0 ∷ [])
+  pub E11-3 : strike 3 (on-sevens parts-3-2 parts-3-2)
+      ≡ after parts-3-2 parts-3-2 (pos 0) 1 (pos 1) (0x9000000020000000 ∷ 0 ∷ [])
+  pub E11-3-2 : strike 2 (strike 3 (on-sevens parts-3-2 parts-3-2))
+      ≡ after parts-3-2 parts-3-2 (pos 1) 0 (pos 2) (0 ∷ 0 ∷ [])
+  pub E12-2 : strike 2 (on-sevens parts-3-2 parts-3-2)
+      ≡ after parts-3-2 parts-3-2 (pos 0) 1 (pos 1) (0x3800000010000000 ∷ 0 ∷ [])
+  pub E12-2-3 : strike 3 (strike 2 (on-sevens parts-3-2 parts-3-2))
+      ≡ after parts-3-2 parts-3-2 (pos 1) 0 (pos 2) (0 ∷ 0 ∷ [])
+  pub E13 : strike 2 (on-sevens parts-2-1 parts-2-1)
+      ≡ after parts-2-1 parts-2-1 (pos 0) 0 (pos 1) (0 ∷ 0 ∷ [])
 
 pub examples : Examples
 unfolding character digits word hooks hookWords hookLines factorial S soundLine sound opening nextLines nextSlip step

@@ -2,6 +2,7 @@
 --   empty x        the line x has the empty shape
 --   nextLines ..   the line is taken out, later lines move down, the lines of its hooks are put at the end
 --   nextSlip ..    the signs of the hooks that leave the empty shape are added to settled, and steps rise by one
+--   stepRows ..    what a step is judged by
 --   step ..        what a step answers, and the page that it leaves
 use Rattle.theory.specs.Basics.{Bool, not, List, [], _∷_, _++_, length, getD, take, drop, ℕ, suc, pos, _+ℤ_}
 use Rattle.theory.specs.Basics.{_=?_, keep, sum}

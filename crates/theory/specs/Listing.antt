@@ -18,6 +18,7 @@ pub mod Order
 pub mod Ranks
 pub mod Columns
 pub mod Words
+pub mod Sizes
 
 unfoldable pub partitions : ℕ → ℕ → ℕ → List Parts
 partitions zero most zero = [] ∷ []

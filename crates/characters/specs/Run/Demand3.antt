@@ -31,7 +31,7 @@ module _ (limit shape class : ℕ) (p : List ℕ) (calls : List Call) (t : Slip)
     -- with the watches struck, every other call answers the same, and the end is the same
     pub watch-free : Session limit shape class p (unwatched calls) t q
     -- slip and page are sound, and the page is as long as it was
-    pub fair : sound limit t q ≡ true
+    pub still-sound : sound limit t q ≡ true
     pub same-length : length q ≡ length p
 
   -- what an accepted opening promised, of the answer and the page that came back
@@ -56,6 +56,6 @@ module _ (limit shape class : ℕ) (p : List ℕ) (calls : List Call) (t : Slip)
         counted = counted;
         bounded = omega (arith, rw (counted, l .same-shape ∙ o .its-shape) at (l .fair .span));
         watch-free = session-unwatched s;
-        fair = sound-is limit t q (l .fair);
+        still-sound = sound-is limit t q (l .fair);
         same-length = l .same-length ∙ o .same-length;
       }

@@ -1,10 +1,15 @@
--- The number and the value that an answer reads tell which answer it is.
+-- What is true of every watch: an answer is told by the number and the value that it reads, and kinds 3 to 5 ignore the
+-- line number.
 --   said w   the answer that reads w
 use mathlib.Core.Path.{_≡_, refl, sym, _∙_, ap}
-use Rattle.theory.specs.Basics.{ℕ}
+use Prim.Native.Nat.{_≤_}
+use native.Mathlib.Omega.{arith}
+use borrow.Author.Tests.{lt-leb}
+use Rattle.theory.specs.Basics.{List, ℕ, zero, suc, _-_}
+use Rattle.characters.specs.declared.Slip.{Slip}
 use Rattle.characters.specs.declared.Watched.{Watched}
 use Rattle.characters.specs.declared.Watched.the-variants.{Whole, Ratio, Refused}
-use Rattle.characters.specs.Watch.{Value, whole, quotient, none, reads}
+use Rattle.characters.specs.Watch.{Value, whole, quotient, none, reads, shown, watch}
 
 abbrev pub said : ℕ × Value → Watched
 said (k, whole z) = Whole z
@@ -18,3 +23,13 @@ said-reads (Refused k) = refl
 
 pub one-answer : (a b : Watched) (w : ℕ × Value) → reads a ≡ w → reads b ≡ w → a ≡ b
 one-answer a b w p q = sym (said-reads a) ∙ ap said (p ∙ sym q) ∙ said-reads b
+
+pub line-ignored : (limit : ℕ) (slip : Slip) (page : List ℕ) (kind i j : ℕ) → 3 ≤ kind
+    → watch limit slip page kind i ≡ watch limit slip page kind j
+unfolding watch shown
+line-ignored limit slip page zero i j h = absurd (omega arith)
+line-ignored limit slip page (suc zero) i j h = absurd (omega arith)
+line-ignored limit slip page (suc (suc zero)) i j h = absurd (omega arith)
+line-ignored limit slip page (suc (suc (suc kind))) i j h =
+    let past : suc (suc (suc kind)) - 1 ≡ suc (suc kind) = omega arith in
+    rw (lt-leb (suc (suc (suc kind))) 2 (omega arith), past) refl

@@ -106,14 +106,12 @@ pub fn aside(run: Run, drawn: Drawn, page: &[u64], spare: &mut [u64]) -> Run {
     let slip = changed_slip(run.slip, run.degree, drawn.choice / 64);
     let tried = on_copy(page, spare, slip, drawn);
     let handed = tried.handed;
-    let mut f = run.found;
-    if handed.refused == 0 {
-        f.chance = f.chance.add(tried.kept);
-    } else {
-        f.aside = f.aside.add(tried.stays && same_slip(handed.slip, slip));
-        f.met = f.met.refused(handed.refused);
-    }
     let mut r = run;
-    r.found = f;
+    if handed.refused == 0 {
+        r.found = run.found.stepped_aside(tried.kept);
+        return r;
+    }
+    let stays = tried.stays && same_slip(handed.slip, slip);
+    r.found = run.found.not_stepped_aside(stays, handed.refused);
     r
 }

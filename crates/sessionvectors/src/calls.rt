@@ -1,5 +1,5 @@
-// The openings and steps of a run, each with its checks. The twin gets every call but the watches, after the run has had it: until
-// then its page has the words that the run's page had before.
+// The openings and steps of a run, each with its checks. The twin gets every call but the watches, after the run has
+// had it: until then its page has the words that the run's page had before.
 use super::found::Found;
 use super::numbers::is;
 use super::pages::blank;
@@ -39,26 +39,23 @@ struct Answers {
     pub stays: bool,
 }
 
-// Whether a slip is that of an accepted opening.
-fn is_opened(slip: Slip, shape: u32, class: u32, degree: u32) -> bool {
+// Whether a slip is that of an accepted opening of the words asked.
+fn is_opened(slip: Slip, asked: Slip, degree: u32) -> bool {
     let empty = degree == 0;
     let settled = if empty { 1 } else { 0 };
     let lines = if empty { 0 } else { 1 };
-    slip.shape == shape
-        && slip.class == class
+    slip.shape == asked.shape
+        && slip.class == asked.class
         && slip.settled == settled
         && slip.lines == lines
         && slip.steps == 0
 }
 
-// The run after an opening that was accepted.
-fn opened(run: Run, slip: Slip, degree: u32, due: u8) -> Run {
-    let told = characters::character(slip.shape, slip.class);
-    let mut f = run.found;
-    f.openings = f.openings.add(
-        due == 0 && told.refused == 0 && is_opened(slip, slip.shape, slip.class, degree),
-    );
-    f.degrees = f.degrees.add(degree as usize);
+// The run after an opening that was accepted, and due.
+fn opened(run: Run, slip: Slip, asked: Slip, degree: u32, due: bool) -> Run {
+    let told = characters::character(asked.shape, asked.class);
+    let right = due && told.refused == 0 && is_opened(slip, asked, degree);
+    let random = run.random;
     Run {
         open: true,
         ended: false,
@@ -66,8 +63,8 @@ fn opened(run: Run, slip: Slip, degree: u32, due: u8) -> Run {
         degree,
         character: told.number,
         struck: 0,
-        random: run.random,
-        found: f,
+        random,
+        found: run.found.opened(right, degree),
     }
 }
 
@@ -84,19 +81,16 @@ fn ask_opening(page: &mut [u64], twin: &mut [u64], asked: Slip) -> Answers {
 }
 
 // What an opening did, which is due to be refused so, or 0.
-fn tell_opening(run: Run, got: Answers, degree: u32, due: u8) -> Run {
+fn tell_opening(run: Run, got: Answers, asked: Slip, degree: u32, due: u8) -> Run {
     let handed = got.handed;
-    let mut f = run.found;
-    f.answers = f.answers.add(same_handed(handed, got.other));
+    let found = run.found.answered(same_handed(handed, got.other));
     let mut r = run;
     if handed.refused == 0 {
-        r.found = f;
-        return opened(r, handed.slip, degree, due);
+        r.found = found;
+        return opened(r, handed.slip, asked, degree, due == 0);
     }
     let stays = got.stays && same_slip(handed.slip, blank());
-    f.unopened = f.unopened.add(handed.refused == due && stays);
-    f.met = f.met.refused(handed.refused);
-    r.found = f;
+    r.found = found.not_opened(handed.refused == due && stays, handed.refused);
     r
 }
 
@@ -109,7 +103,7 @@ pub fn open(
     due: u8,
 ) -> Run {
     let got = ask_opening(page, twin, asked);
-    tell_opening(run, got, degree, due)
+    tell_opening(run, got, asked, degree, due)
 }
 
 // Whether a step may be refused so; 10 only where the 16 hooks that a line can have lack room.
@@ -122,22 +116,15 @@ fn allowed(refused: u8, asked: Asked, room: usize) -> bool {
     }
 }
 
-fn larger(x: u64, y: u64) -> u64 {
-    if x < y { y } else { x }
-}
-
 // The run after a step that was accepted.
 fn stepped(run: Run, asked: Asked, slip: Slip) -> Run {
     let struck = std::num::wrapping_add_u64(run.struck, 1);
     let stays = slip.shape == asked.slip.shape && slip.class == asked.slip.class;
-    let mut f = run.found;
-    f.accepted = f.accepted
-        .add(asked.due == 0 && stays && is(slip.steps, struck));
-    f.most_lines = larger(f.most_lines, slip.lines as u64);
+    let right = asked.due == 0 && stays && is(slip.steps, struck);
     let mut r = run;
+    r.found = run.found.stepped(right, slip.lines);
     r.slip = slip;
     r.struck = struck;
-    r.found = f;
     r
 }
 
@@ -156,17 +143,15 @@ fn ask_step(page: &mut [u64], twin: &mut [u64], asked: Asked) -> Answers {
 // What a step did on a page with room for so many lines.
 fn tell_step(run: Run, got: Answers, asked: Asked, room: usize) -> Run {
     let handed = got.handed;
-    let mut f = run.found;
-    f.answers = f.answers.add(same_handed(handed, got.other));
+    let found = run.found.answered(same_handed(handed, got.other));
     let mut r = run;
     if handed.refused == 0 {
-        r.found = f;
+        r.found = found;
         return stepped(r, asked, handed.slip);
     }
     let stays = got.stays && same_slip(handed.slip, asked.slip);
-    f.refused = f.refused.add(stays && allowed(handed.refused, asked, room));
-    f.met = f.met.refused(handed.refused);
-    r.found = f;
+    let right = stays && allowed(handed.refused, asked, room);
+    r.found = found.not_stepped(right, handed.refused);
     r
 }
 

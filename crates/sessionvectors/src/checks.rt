@@ -13,45 +13,42 @@ use characters::sessions;
 // A watch on the page alone.
 pub fn watch(run: Run, page: &[u64], slip: Slip, kind: u64, line: usize, due: u8) -> Run {
     let watched = sessions::watch(slip, page, kind, line);
-    let mut f = run.found;
-    f.watches = f.watches.add(right(watched, run, page, kind, line, due));
-    let number = refusal(watched);
-    if number != 0 {
-        f.met = f.met.refused(number);
-    }
+    let right = right(watched, run, page, kind, line, due);
     let mut r = run;
-    r.found = f;
+    r.found = run.found.watched(right, refusal(watched));
     r
 }
 
-// After each call: the conserved sum and the count of steps, by watches, and the end of a session.
+// The conserved sum and the count of steps, as watches show them.
 fn check_session(run: Run, page: &[u64]) -> Run {
     let settled = whole(sessions::watch(run.slip, page, 3, 0));
     let waiting = whole(sessions::watch(run.slip, page, 4, 0));
     let steps = whole(sessions::watch(run.slip, page, 5, 0));
-    let mut f = run.found;
-    f.sums = f.sums.add(sum_is(settled, waiting, run.character));
-    f.counts = f.counts.add(is(steps, run.struck) && run.struck <= most_steps(run.degree));
+    let sum = sum_is(settled, waiting, run.character);
+    let count = is(steps, run.struck) && run.struck <= most_steps(run.degree);
     let mut r = run;
-    if run.slip.lines == 0 && !run.ended {
-        f.ends = f.ends
-            .add(run.slip.settled == run.character && waiting == 0);
-        r.ended = true;
+    r.found = run.found.checked(sum, count);
+    r
+}
+
+// Where no line waits any more: what is settled is the character.
+fn check_end(run: Run) -> Run {
+    if run.ended || run.slip.lines != 0 {
+        return run;
     }
-    r.found = f;
+    let mut r = run;
+    r.ended = true;
+    r.found = run.found.ended(run.slip.settled == run.character);
     r
 }
 
 // After each call: the session's own checks, and then the page of the twin, which was never watched.
 pub fn check(run: Run, page: &[u64], twin: &[u64]) -> Run {
-    let r = if run.open {
-        check_session(run, page)
-    } else {
-        run
-    };
-    let mut f = r.found;
-    f.twins = f.twins.add(same(page, twin));
-    let mut r = r;
-    r.found = f;
+    let mut r = run;
+    if run.open {
+        r = check_end(check_session(run, page));
+    }
+    let found = r.found.twinned(same(page, twin));
+    r.found = found;
     r
 }

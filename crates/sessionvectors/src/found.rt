@@ -1,6 +1,5 @@
 // What the random runs found: a tally for each kind of case, and how often each number refused.
 use super::tally::Tally;
-use super::tally::print;
 
 pub struct Found {
     pub openings: Tally,
@@ -38,8 +37,11 @@ impl Times {
         Times { times }
     }
 
-    // A refusal by a number.
+    // A refusal by a number, and none by 0.
     pub fn refused(self, number: u8) -> Self {
+        if number == 0 {
+            return self;
+        }
         self.add(number as usize)
     }
 }
@@ -65,56 +67,84 @@ impl Found {
             most_lines: 0,
         }
     }
-}
 
-fn print_number(name: &[u8], number: u64, times: u64) {
-    if times == 0 {
-        return;
+    pub fn opened(self, right: bool, degree: u32) -> Self {
+        let mut f = self;
+        f.openings = f.openings.add(right);
+        f.degrees = f.degrees.add(degree as usize);
+        f
     }
-    io::write_all(1, name);
-    io::print_decimal(1, number);
-    io::write_all(1, b": ");
-    io::print_decimal(1, times);
-    io::write_all(1, b" times\n");
-}
 
-// A line for each number that was met, with this name before it.
-fn print_times(name: &[u8], met: Times) {
-    let times = met.times;
-    let mut number = 0;
-    while number < 17 {
-        print_number(name, number as u64, times[number]);
-        number += 1;
+    pub fn not_opened(self, right: bool, number: u8) -> Self {
+        let mut f = self;
+        f.unopened = f.unopened.add(right);
+        f.met = f.met.refused(number);
+        f
+    }
+
+    pub fn stepped(self, right: bool, lines: usize) -> Self {
+        let mut f = self;
+        f.accepted = f.accepted.add(right);
+        f.most_lines = larger(f.most_lines, lines as u64);
+        f
+    }
+
+    pub fn not_stepped(self, right: bool, number: u8) -> Self {
+        let mut f = self;
+        f.refused = f.refused.add(right);
+        f.met = f.met.refused(number);
+        f
+    }
+
+    pub fn watched(self, right: bool, number: u8) -> Self {
+        let mut f = self;
+        f.watches = f.watches.add(right);
+        f.met = f.met.refused(number);
+        f
+    }
+
+    // A step on a changed copy, which was accepted or refused.
+    pub fn stepped_aside(self, kept: bool) -> Self {
+        let mut f = self;
+        f.chance = f.chance.add(kept);
+        f
+    }
+
+    pub fn not_stepped_aside(self, stays: bool, number: u8) -> Self {
+        let mut f = self;
+        f.aside = f.aside.add(stays);
+        f.met = f.met.refused(number);
+        f
+    }
+
+    // The conserved sum and the step count after a call.
+    pub fn checked(self, sum: bool, count: bool) -> Self {
+        let mut f = self;
+        f.sums = f.sums.add(sum);
+        f.counts = f.counts.add(count);
+        f
+    }
+
+    pub fn ended(self, right: bool) -> Self {
+        let mut f = self;
+        f.ends = f.ends.add(right);
+        f
+    }
+
+    // The twin's answer to a call, and its page after one.
+    pub fn answered(self, same: bool) -> Self {
+        let mut f = self;
+        f.answers = f.answers.add(same);
+        f
+    }
+
+    pub fn twinned(self, same: bool) -> Self {
+        let mut f = self;
+        f.twins = f.twins.add(same);
+        f
     }
 }
 
-fn print_calls(found: Found) {
-    print(b"random runs, openings accepted", found.openings);
-    print(b"random runs, openings refused", found.unopened);
-    print(b"random runs, steps accepted", found.accepted);
-    print(b"random runs, steps refused", found.refused);
-    print(b"random runs, watches", found.watches);
-    print(b"random runs, steps refused on a changed copy", found.aside);
-    print(b"random runs, sound steps on a changed copy", found.chance);
-}
-
-fn print_checks(found: Found) {
-    print(b"random runs, conserved sum after a call", found.sums);
-    print(b"random runs, step count after a call", found.counts);
-    print(
-        b"random runs, answers of the watch-free twin",
-        found.answers,
-    );
-    print(b"random runs, page of the watch-free twin", found.twins);
-    print(b"random runs, sessions run to the end", found.ends);
-}
-
-pub fn print_all(found: Found) {
-    print_calls(found);
-    print_checks(found);
-    print_times(b"random runs, opened at degree ", found.degrees);
-    print_times(b"random runs, refused by ", found.met);
-    io::write_all(1, b"random runs, most lines on a page: ");
-    io::print_decimal(1, found.most_lines);
-    io::write_all(1, b"\n");
+fn larger(x: u64, y: u64) -> u64 {
+    if x < y { y } else { x }
 }

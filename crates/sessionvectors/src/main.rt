@@ -13,6 +13,7 @@ mod random;
 mod readings;
 mod runs;
 mod tally;
+mod telling;
 mod wrong;
 
 use tally::print;
@@ -23,5 +24,5 @@ fn main() {
         examples::borders(),
     );
     print(b"E11, E12, E13 as runs", examples::runs());
-    found::print_all(runs::all());
+    telling::print_all(runs::all());
 }

@@ -70,7 +70,16 @@ fn calls(run: Run, count: u64, page: &mut [u64], twin: &mut [u64], spare: &mut [
     r
 }
 
-// A run of 60 to 100 calls on a page of a drawn size, whose words are any before the first opening.
+// How many calls a run has: 60 to 100, and up to 300 on a page with room for them.
+fn run_length(size: usize, word: u64) -> u64 {
+    if size < 100 {
+        60 + word % 41
+    } else {
+        100 + word % 201
+    }
+}
+
+// A run on a page of a drawn size, whose words are any before the first opening.
 fn one(run: Run) -> Run {
     let drawn = draw(run.random);
     let size = page_size(drawn.choice);
@@ -84,7 +93,7 @@ fn one(run: Run) -> Run {
     r.random = random;
     calls(
         r,
-        60 + drawn.second % 41,
+        run_length(size, drawn.second),
         &mut page[..size],
         &mut twin[..size],
         &mut spare[..size],

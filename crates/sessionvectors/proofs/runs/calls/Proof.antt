@@ -1,4 +1,4 @@
--- `sessionvectors::runs::calls` is safe and ends. The calls made rise to their count, and no call changes a page's length.
+-- `sessionvectors::runs::calls` is safe and ends. The calls made rise to their count, and each page keeps its length.
 use mathlib.Core.Path.{_≡_}
 use Prim.Native.Nat.{_≤_, _-_}
 use lib.ListN.{length}

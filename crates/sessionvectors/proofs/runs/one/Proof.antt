@@ -12,8 +12,8 @@ draw-requires c κs = search needs
 page-size-requires : tie.Need-page-size-requires
 page-size-requires c κs = search needs
 
-add-calls : tie.Need-add-calls
-add-calls c = search needs
+run-length-requires : tie.Need-run-length-requires
+run-length-requires c κs = search needs
 
 array-borrow-prefix-page : tie.Need-array-borrow-prefix-page
 array-borrow-prefix-page c = search needs
@@ -45,7 +45,7 @@ one-spec =
     (tie.spec
     draw-requires
     page-size-requires
-    add-calls
+    run-length-requires
     array-borrow-prefix-page
     slice-aggregate-calls
     array-borrow-prefix-twin

@@ -1,8 +1,8 @@
--- `sessionvectors::found::print_times` is safe and ends. The number rises to 17.
+-- `sessionvectors::telling::print_times` is safe and ends. The number rises to 17.
 use Prim.Native.Nat.{_≤_, _-_}
 use borrow.Author.Needs.{needs}
-use Rattle.sessionvectors.proofs.found.print_times.Statement.{statement}
-use Rattle.sessionvectors.proofs.found.print_times.Tie as tie
+use Rattle.sessionvectors.proofs.telling.print_times.Statement.{statement}
+use Rattle.sessionvectors.proofs.telling.print_times.Tie as tie
 
 abbrev Inv-loop : tie.InvT-loop
 Inv-loop name times number₀ number = number ≤ 17

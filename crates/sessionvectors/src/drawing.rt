@@ -50,27 +50,9 @@ pub fn page_size(word: u64) -> usize
     }
 }
 
-// The number of partitions of a degree (document 01, "Listing").
-fn count(degree: u32) -> u64 {
-    match degree {
-        0 => 1,
-        1 => 1,
-        2 => 2,
-        3 => 3,
-        4 => 5,
-        5 => 7,
-        6 => 11,
-        7 => 15,
-        8 => 22,
-        9 => 30,
-        10 => 42,
-        11 => 56,
-        12 => 77,
-        13 => 101,
-        14 => 135,
-        15 => 176,
-        _ => 231,
-    }
+// A rank in the listing of a degree.
+fn rank(degree: u32, word: u64) -> u32 {
+    narrow(below(word, listing::section(degree).count as u64))
 }
 
 // A number below 2^32.
@@ -83,13 +65,11 @@ pub fn degree(word: u64) -> u32 {
 }
 
 pub fn shape(degree: u32, word: u64) -> u32 {
-    let rank = narrow(below(word, count(degree)));
-    characters::listing::shape_at(degree, rank).word
+    listing::shape_at(degree, rank(degree, word)).word
 }
 
 pub fn class(degree: u32, word: u64) -> u32 {
-    let rank = narrow(below(word, count(degree)));
-    characters::listing::class_at(degree, rank).word
+    listing::class_at(degree, rank(degree, word)).word
 }
 
 // A number below a count of lines or words, and 0 where there is none.

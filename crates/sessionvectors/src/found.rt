@@ -1,23 +1,39 @@
-// What the random runs found: a tally for each kind of case, and how often each number refused.
+// What the random runs found: how many cases of each kind there were and how many of them were wrong, and how often each
+// number refused.
 use super::tally::Tally;
 
 pub struct Found {
-    pub openings: Tally,
-    pub unopened: Tally,
-    pub accepted: Tally,
-    pub refused: Tally,
-    pub watches: Tally,
-    pub sums: Tally,
-    pub counts: Tally,
-    pub answers: Tally,
-    pub twins: Tally,
-    pub ends: Tally,
-    pub aside: Tally,
-    pub chance: Tally,
+    pub cases: [u64; 12],
+    pub wrong: [u64; 12],
     pub met: Times,
     pub degrees: Times,
     pub most_lines: u64,
 }
+
+// The kinds of cases, in the order in which they are told.
+const OPENINGS: usize = 0;
+
+const UNOPENED: usize = 1;
+
+const ACCEPTED: usize = 2;
+
+const REFUSED: usize = 3;
+
+const WATCHES: usize = 4;
+
+const REFUSED_ASIDE: usize = 5;
+
+const ACCEPTED_ASIDE: usize = 6;
+
+const SUMS: usize = 7;
+
+const COUNTS: usize = 8;
+
+const ANSWERS: usize = 9;
+
+const TWINS: usize = 10;
+
+const ENDS: usize = 11;
 
 // How often each number from 0 to 16 was met.
 pub struct Times {
@@ -48,100 +64,99 @@ impl Times {
 
 impl Found {
     pub fn nothing() -> Self {
-        let none = Tally::new();
         Found {
-            openings: none,
-            unopened: none,
-            accepted: none,
-            refused: none,
-            watches: none,
-            sums: none,
-            counts: none,
-            answers: none,
-            twins: none,
-            ends: none,
-            aside: none,
-            chance: none,
+            cases: [0u64; 12],
+            wrong: [0u64; 12],
             met: Times::never(),
             degrees: Times::never(),
             most_lines: 0,
         }
     }
 
-    pub fn opened(self, right: bool, degree: u32) -> Self {
+    // A case of a kind.
+    fn add(self, kind: usize, right: bool) -> Self {
+        let mut cases = self.cases;
+        let mut wrong = self.wrong;
+        if kind < 12 {
+            cases[kind] = std::num::wrapping_add_u64(cases[kind], 1);
+            if !right {
+                wrong[kind] = std::num::wrapping_add_u64(wrong[kind], 1);
+            }
+        }
         let mut f = self;
-        f.openings = f.openings.add(right);
+        f.cases = cases;
+        f.wrong = wrong;
+        f
+    }
+
+    // A case of a kind that this number refused, 0 for none.
+    fn add_refused(self, kind: usize, right: bool, number: u8) -> Self {
+        let mut f = self.add(kind, right);
+        f.met = f.met.refused(number);
+        f
+    }
+
+    pub fn tally(self, kind: usize) -> Tally {
+        let cases = self.cases;
+        let wrong = self.wrong;
+        if kind < 12 {
+            return Tally {
+                cases: cases[kind],
+                wrong: wrong[kind],
+            };
+        }
+        Tally::new()
+    }
+
+    pub fn opened(self, right: bool, degree: u32) -> Self {
+        let mut f = self.add(OPENINGS, right);
         f.degrees = f.degrees.add(degree as usize);
         f
     }
 
     pub fn not_opened(self, right: bool, number: u8) -> Self {
-        let mut f = self;
-        f.unopened = f.unopened.add(right);
-        f.met = f.met.refused(number);
-        f
+        self.add_refused(UNOPENED, right, number)
     }
 
     pub fn stepped(self, right: bool, lines: usize) -> Self {
-        let mut f = self;
-        f.accepted = f.accepted.add(right);
+        let mut f = self.add(ACCEPTED, right);
         f.most_lines = larger(f.most_lines, lines as u64);
         f
     }
 
     pub fn not_stepped(self, right: bool, number: u8) -> Self {
-        let mut f = self;
-        f.refused = f.refused.add(right);
-        f.met = f.met.refused(number);
-        f
+        self.add_refused(REFUSED, right, number)
     }
 
     pub fn watched(self, right: bool, number: u8) -> Self {
-        let mut f = self;
-        f.watches = f.watches.add(right);
-        f.met = f.met.refused(number);
-        f
+        self.add_refused(WATCHES, right, number)
     }
 
     // A step on a changed copy, which was accepted or refused.
     pub fn stepped_aside(self, kept: bool) -> Self {
-        let mut f = self;
-        f.chance = f.chance.add(kept);
-        f
+        self.add(ACCEPTED_ASIDE, kept)
     }
 
     pub fn not_stepped_aside(self, stays: bool, number: u8) -> Self {
-        let mut f = self;
-        f.aside = f.aside.add(stays);
-        f.met = f.met.refused(number);
-        f
+        self.add_refused(REFUSED_ASIDE, stays, number)
     }
 
     // The conserved sum and the step count after a call.
     pub fn checked(self, sum: bool, count: bool) -> Self {
-        let mut f = self;
-        f.sums = f.sums.add(sum);
-        f.counts = f.counts.add(count);
-        f
+        self.add(SUMS, sum).add(COUNTS, count)
     }
 
     pub fn ended(self, right: bool) -> Self {
-        let mut f = self;
-        f.ends = f.ends.add(right);
-        f
+        self.add(ENDS, right)
     }
 
     // The twin's answer to a call, and its page after one.
     pub fn answered(self, same: bool) -> Self {
-        let mut f = self;
-        f.answers = f.answers.add(same);
-        f
+        self.add(ANSWERS, same)
     }
 
     pub fn twinned(self, same: bool) -> Self {
-        let mut f = self;
-        f.twins = f.twins.add(same);
-        f
+        self.add(TWINS, same)
     }
 }
 

@@ -24,25 +24,32 @@ fn print_times(name: &[u8], met: Times) {
     }
 }
 
+// A line for each kind of case, in the order of found.rt.
 fn print_calls(found: Found) {
-    print(b"random runs, openings accepted", found.openings);
-    print(b"random runs, openings refused", found.unopened);
-    print(b"random runs, steps accepted", found.accepted);
-    print(b"random runs, steps refused", found.refused);
-    print(b"random runs, watches", found.watches);
-    print(b"random runs, steps refused on a changed copy", found.aside);
-    print(b"random runs, sound steps on a changed copy", found.chance);
+    print(b"random runs, openings accepted", found.tally(0));
+    print(b"random runs, openings refused", found.tally(1));
+    print(b"random runs, steps accepted", found.tally(2));
+    print(b"random runs, steps refused", found.tally(3));
+    print(b"random runs, watches", found.tally(4));
+    print(
+        b"random runs, steps refused on a changed copy",
+        found.tally(5),
+    );
+    print(
+        b"random runs, sound steps on a changed copy",
+        found.tally(6),
+    );
 }
 
 fn print_checks(found: Found) {
-    print(b"random runs, conserved sum after a call", found.sums);
-    print(b"random runs, step count after a call", found.counts);
+    print(b"random runs, conserved sum after a call", found.tally(7));
+    print(b"random runs, step count after a call", found.tally(8));
     print(
         b"random runs, answers of the watch-free twin",
-        found.answers,
+        found.tally(9),
     );
-    print(b"random runs, page of the watch-free twin", found.twins);
-    print(b"random runs, sessions run to the end", found.ends);
+    print(b"random runs, page of the watch-free twin", found.tally(10));
+    print(b"random runs, sessions run to the end", found.tally(11));
 }
 
 pub fn print_all(found: Found) {

@@ -15,11 +15,12 @@ use std::process::ExitCode;
 /// The comparisons of a group.
 type Run = fn(&Characters, &mut Group);
 
-const GROUPS: [(&str, Run); 8] = [
+const GROUPS: [(&str, Run); 9] = [
     ("examples", groups::examples::run),
     ("pairs to degree 10", groups::pairs::to_degree_10),
     ("pairs of degrees 11 to 16", groups::pairs::of_degrees_11_to_16),
     ("columns", groups::columns::run),
+    ("formulas (6) and (10)", groups::formulas::run),
     ("part lists", groups::lists::run),
     ("words", groups::words::run),
     ("pairs of words", groups::words::run_pairs),

@@ -3,6 +3,7 @@
 pub mod columns;
 mod draws;
 pub mod examples;
+pub mod formulas;
 pub mod lists;
 mod made;
 pub mod pairs;

@@ -61,7 +61,7 @@ pub fn there_and_back(kind: Kind, made: WordAnswer, parts: &[u8], n: u8) -> bool
         && written(kind, made.word, parts, parts.len())
 }
 
-// Whether a word's parts are refused by an empty column and by one too short by one, and leave the rest of a longer one.
+// Whether an empty column and one too short by one refuse a word's parts, and the rest of a longer one stays.
 pub fn fit(kind: Kind, word: u32, parts: &[u8]) -> bool {
     let count = parts.len();
     let shorter = if 0 < count { count - 1 } else { 0 };

@@ -9,8 +9,8 @@ use super::conjugates;
 use super::partitions;
 use super::tally::Tally;
 
-// What each check found, and of the degree that is being walked the number of partitions met, the class word of the last
-// one and the sum of the sizes of the classes.
+// What each check found, and of the degree that is being walked the number of partitions met, the class word of the
+// last one and the sum of the sizes of the classes.
 pub struct Found {
     pub shapes: Tally,
     pub classes: Tally,

@@ -1,4 +1,4 @@
--- `vectors::conjugates::transpose` is safe and ends. Both indices stay within their run, and the rows keep their number.
+-- `vectors::conjugates::transpose` is safe and ends. Both indices stay within their run; the rows keep their number.
 use native.Mathlib.Omega.{arith}
 use mathlib.Core.Path.{_≡_}
 use Prim.Native.Nat.{_≤_, _-_}

@@ -1,4 +1,4 @@
--- `vectors::walk::of_degree` is safe and ends. The count is within the sixteen places, and the turns left fall from 300.
+-- `vectors::walk::of_degree` is safe and ends. The count is within the sixteen places; the turns left fall from 300.
 use mathlib.Core.Path.{_≡_}
 use lib.ListN.{length}
 use borrow.Author.Needs.{needs}

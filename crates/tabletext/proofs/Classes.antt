@@ -43,7 +43,9 @@ module _ (n r : ℕ) (small : n ≤ degreeLimit) (within : r < length (listing n
   held = record { partition = known .partition; room = omega (arith, known .whole) }
 
   passes : firstOf (classRows degreeLimit (classWord class)) ≡ 0
-  passes = rw (word-good held .accepted, class-of-word held, le-ltb degreeLimit (degree class) (omega (arith, known .whole)))
+  passes =
+      let within = le-ltb degreeLimit (degree class) (omega (arith, known .whole)) in
+      rw (word-good held .accepted, class-of-word held, within)
 
   pub size-fits : classSize class < 2 ^ 63
   unfolding classSize
@@ -53,7 +55,8 @@ module _ (n r : ℕ) (small : n ≤ degreeLimit) (within : r < length (listing n
 
   pub word-of-rank : (a : WordAnswer) → a ≡ classAt degreeLimit n r → a .word ≡ classWord class
   unfolding classAt
-  word-of-rank a e = ap (λ (x : WordAnswer). x .word) e ∙ rw (le-ltb degreeLimit n small, lt-leb (length (listing n)) r within) refl
+  word-of-rank a e =
+      ap (λ (x : WordAnswer). x .word) e ∙ rw (le-ltb degreeLimit n small, lt-leb (length (listing n)) r within) refl
 
   module _ (w : ℕ) (e : w ≡ classWord class) where
     pub parts-of-rank : (k : CountAnswer) (parts : List ℕ)
@@ -61,7 +64,8 @@ module _ (n r : ℕ) (small : n ≤ degreeLimit) (within : r < length (listing n
     unfolding classPartsInto
     parts-of-rank k parts o =
         let room : length class ≤ 16 = omega (arith, known .whole, length-degree class (known .partition)) in
-        let front = front-given (classRows degreeLimit (classWord class)) (classOf (classWord class)) (replicate 16 0) refl
+        let rows = classRows degreeLimit (classWord class) in
+        let front = front-given rows (classOf (classWord class)) (replicate 16 0) refl
         (λ z. rw (class-of-word held) room) k parts (rw e at o) passes in
         rw (class-of-word held) at front
 

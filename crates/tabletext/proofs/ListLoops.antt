@@ -1,4 +1,4 @@
--- A loop that writes the elements of a list as text, set apart by commas: after i turns the first i of them stand there.
+-- A loop that writes the elements of a list as text, set apart by commas: after i turns the first i stand there.
 --   Reached i end out   what it has written after i turns, and where that ends
 use mathlib.Core.Path.{_≡_}
 use Prim.Native.Nat.{_≤_, _<_}
@@ -32,7 +32,8 @@ module _ {A : Type 0} (text : A → Text) (xs : List A) (at : ℕ) (before : Lis
     room-left : at + length (commas (map text xs)) ≤ length before
         → end + length (separator i ++ text (getD xs i d)) ≤ length out
     room-left room =
-        wrote-room w (separator i ++ text (getD xs i d)) (rw (← next) (omega (arith, commas-front (map text xs) (suc i))))
+        let front = commas-front (map text xs) (suc i) in
+        wrote-room w (separator i ++ text (getD xs i d)) (rw (← next) (omega (arith, front)))
 
     pub separator-room : at + length (commas (map text xs)) ≤ length before → end + length (separator i) ≤ length out
     separator-room room = first-room (separator i) (text (getD xs i d)) end (length out) (room-left room)

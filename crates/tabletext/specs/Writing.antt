@@ -1,5 +1,5 @@
 -- Text in lent bytes.
---   Wrote text at before end after   writing text behind the first `at` bytes of before leaves after; the text ends at end
+--   Wrote text at before end after   text written behind the first `at` bytes of before leaves after, and ends at end
 use mathlib.Core.Path.{_≡_}
 use lib.Seq.{sets}
 use Rattle.theory.specs.Basics.{List, ℕ, _+_, length}

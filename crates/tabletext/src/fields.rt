@@ -19,7 +19,8 @@ pub fn number(name: &[u8], n: u64, out: &mut [u8], at: usize) -> usize
 
 fn parts(parts: &[u8], out: &mut [u8], at: usize) -> usize
     requires { ⌜ at + length (field "class=" (commas (map decimal (now parts)))) ≤ length (now out) ⌝ }
-    ensures { λ r. ⌜ Wrote (field "class=" (commas (map decimal (now (parts .entry))))) at (now (out .entry)) r (now (out .exit)) ⌝ }
+    ensures { λ r. ⌜ Wrote (field "class=" (commas (map decimal (now (parts .entry)))))
+        at (now (out .entry)) r (now (out .exit)) ⌝ }
 {
     let end = text::put(b"class=", out, at);
     let end = lists::parts(parts, out, end);
@@ -28,7 +29,8 @@ fn parts(parts: &[u8], out: &mut [u8], at: usize) -> usize
 
 fn values(values: &[i64], out: &mut [u8], at: usize) -> usize
     requires { ⌜ at + length (field "values=" (commas (map integer (now values)))) ≤ length (now out) ⌝ }
-    ensures { λ r. ⌜ Wrote (field "values=" (commas (map integer (now (values .entry))))) at (now (out .entry)) r (now (out .exit)) ⌝ }
+    ensures { λ r. ⌜ Wrote (field "values=" (commas (map integer (now (values .entry)))))
+        at (now (out .entry)) r (now (out .exit)) ⌝ }
 {
     let end = text::put(b"values=", out, at);
     let end = lists::values(values, out, end);
@@ -38,7 +40,8 @@ fn values(values: &[i64], out: &mut [u8], at: usize) -> usize
 // The lines of a class.
 pub fn class(class: &[u8], size: u64, column: &[i64], out: &mut [u8], at: usize) -> usize
     requires { ⌜ at + length (classText (now class) size (now column)) ≤ length (now out) ⌝ }
-    ensures { λ r. ⌜ Wrote (classText (now (class .entry)) size (now (column .entry))) at (now (out .entry)) r (now (out .exit)) ⌝ }
+    ensures { λ r. ⌜ Wrote (classText (now (class .entry)) size (now (column .entry)))
+        at (now (out .entry)) r (now (out .exit)) ⌝ }
 {
     let end = parts(class, out, at);
     let end = number(b"size=", size, out, end);

@@ -24,7 +24,7 @@ const CLASS_17: u32 = 0x0000_4000;
 // A shape word on a class word: the number that refuses the pair and 0, or 0 and the character.
 fn pair(t: Tally, shape: u32, class: u32, refused: u8, number: i64) -> Tally {
     let told = characters::character(shape, class);
-    t.add(told.refused == refused && told.number == number)
+    t.add((told.refused == refused) & (told.number == number))
 }
 
 pub fn pairs() -> Tally {
@@ -49,8 +49,8 @@ pub fn pairs() -> Tally {
 fn shape(t: Tally, word: u32, refused: u8, degree: i64, rank: i64) -> Tally {
     let told = characters::character_degree(word);
     let ranked = listing::shape_rank(word);
-    t.add(told.refused == refused && told.number == degree)
-        .add(ranked.refused == refused && ranked.number == rank)
+    t.add((told.refused == refused) & (told.number == degree))
+        .add((ranked.refused == refused) & (ranked.number == rank))
 }
 
 pub fn shapes() -> Tally {
@@ -69,8 +69,8 @@ fn class(t: Tally, word: u32, refused: u8, rank: i64) -> Tally {
     let column = characters::column(word, &mut none);
     let ranked = listing::class_rank(word);
     let first = if refused == 0 { 14 } else { refused };
-    t.add(column.refused == first && column.count == 0)
-        .add(ranked.refused == refused && ranked.number == rank)
+    t.add((column.refused == first) & (column.count == 0))
+        .add((ranked.refused == refused) & (ranked.number == rank))
 }
 
 pub fn classes() -> Tally {

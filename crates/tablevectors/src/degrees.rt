@@ -2,17 +2,23 @@
 ghost use Prim.Native.Nat.{_≤_};
 use super::lists;
 use super::tally::Tally;
+use super::tally::print;
 
 pub struct Degrees {
     pub largest: Tally,
     pub all: Tally,
 }
 
+pub fn print_all(found: Degrees) {
+    print(b"largest character degree, document 004", found.largest);
+    print(b"character degrees are entries of (1^n)", found.all);
+}
+
 // Whether the shape of a rank has this character degree.
 fn has(degree: u32, rank: u32, number: i64) -> bool {
     let shape = listing::shape_at(degree, rank);
     let told = characters::character_degree(shape.word);
-    shape.refused == 0 && told.refused == 0 && told.number == number
+    (shape.refused == 0) & (told.refused == 0) & (told.number == number)
 }
 
 // The class (1^n) is the last.

@@ -55,7 +55,7 @@ fn is_quotient(sum: i64, factorial: u64, size: u64) -> bool {
     if size == 0 {
         return false;
     }
-    factorial % size == 0 && natural(sum) == factorial / size
+    (factorial % size == 0) & (natural(sum) == factorial / size)
 }
 
 // The class of a rank with those up to it.

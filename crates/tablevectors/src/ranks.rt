@@ -1,5 +1,6 @@
 // The listing: from a rank to a partition, as either word, and back.
 use super::tally::Tally;
+use super::tally::print;
 use words::NumberAnswer;
 use words::WordAnswer;
 
@@ -9,16 +10,23 @@ pub struct Ranks {
     pub past: Tally,
 }
 
+pub fn print_all(found: Ranks) {
+    print(b"shape at a rank and back", found.shapes);
+    print(b"class at a rank and back", found.classes);
+    print(b"rank past the last, 11", found.past);
+}
+
 // Whether a word was given, and its rank is this one.
 fn back(word: WordAnswer, told: NumberAnswer, rank: u32) -> bool {
-    word.refused == 0 && told.refused == 0 && told.number == rank as i64
+    (word.refused == 0) & (told.refused == 0) & (told.number == rank as i64)
 }
 
 // Whether a rank is refused so, as a shape and as a class.
 fn refused(degree: u32, rank: u32, number: u8) -> bool {
     let shape = listing::shape_at(degree, rank);
     let class = listing::class_at(degree, rank);
-    shape.refused == number && shape.word == 0 && class.refused == number && class.word == 0
+    let no_shape = (shape.refused == number) & (shape.word == 0);
+    no_shape & (class.refused == number) & (class.word == 0)
 }
 
 pub fn of_degree(found: Ranks, degree: u32, count: u32) -> Ranks {

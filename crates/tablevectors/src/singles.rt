@@ -6,7 +6,7 @@ use super::tally::Tally;
 fn has(degree: u32, rank: u32, class: u32, number: i64) -> bool {
     let shape = listing::shape_at(degree, rank);
     let told = characters::character(shape.word, class);
-    shape.refused == 0 && told.refused == 0 && told.number == number
+    (shape.refused == 0) & (told.refused == 0) & (told.number == number)
 }
 
 fn of_class(t: Tally, degree: u32, count: u32, class: u32) -> Tally

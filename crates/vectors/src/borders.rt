@@ -9,7 +9,7 @@ use words::WordAnswer;
 
 // Whether a number is refused so, with 0 beside it; or given, where that is 0.
 fn number_refused(answer: NumberAnswer, refused: u8) -> bool {
-    answer.refused == refused && (refused == 0 || answer.number == 0)
+    (answer.refused == refused) & ((refused == 0) | (answer.number == 0))
 }
 
 // Whether parts are refused so, even by an empty column, and a column stays; or written, where that is 0.
@@ -18,22 +18,22 @@ fn parts_refused(kind: Kind, word: u32, refused: u8) -> bool {
     let empty = parts_of(kind, word, &mut none);
     let mut column = [MARK; 17];
     let read = parts_of(kind, word, &mut column);
-    let stays = read.count == 0 && holds(&column, b"");
+    let stays = (read.count == 0) & holds(&column, b"");
     let first = if refused == 0 { 14 } else { refused };
-    empty.refused == first && read.refused == refused && stays == (refused != 0)
+    (empty.refused == first) & (read.refused == refused) & (stays == (refused != 0))
 }
 
 fn as_shape(t: Tally, word: u32, refused: u8, degree: i64) -> Tally {
     let told = words::shapes::degree(word);
     let turned = words::shapes::conjugate(word);
-    t.add(told.refused == refused && told.number == degree)
+    t.add((told.refused == refused) & (told.number == degree))
         .add(parts_refused(Kind::Shape, word, refused))
-        .add(turned.refused == refused && (refused == 0 || turned.word == 0))
+        .add((turned.refused == refused) & ((refused == 0) | (turned.word == 0)))
 }
 
 fn as_class(t: Tally, word: u32, refused: u8, degree: i64) -> Tally {
     let told = words::classes::degree(word);
-    t.add(told.refused == refused && told.number == degree)
+    t.add((told.refused == refused) & (told.number == degree))
         .add(parts_refused(Kind::Class, word, refused))
         .add(number_refused(words::classes::sign(word), refused))
         .add(number_refused(words::classes::size(word), refused))
@@ -59,7 +59,7 @@ pub fn words() -> Tally {
 }
 
 fn is(made: WordAnswer, refused: u8, word: u32) -> bool {
-    made.refused == refused && made.word == word
+    (made.refused == refused) & (made.word == word)
 }
 
 // A part list for a shape word and for a class word: the number that refuses it and 0, or 0 and the word.
@@ -68,11 +68,10 @@ fn list(t: Tally, parts: &[u8], shape: u8, v: u32, class: u8, w: u32) -> Tally {
         .add(is(words::classes::word(parts), class, w))
 }
 
-// The first four are E1, E5, E2 and E3.
-pub fn lists() -> Tally {
-    let mut ones = [1u8; 300];
-    let long = [200u8; 300];
-    let t = list(Tally::new(), b"\x03\x02", 0, 0x2C00_0000, 0, 0x1400_0000);
+// Lists that have words: the first four are E1, E5, E2 and E3.
+fn lists_given(t: Tally) -> Tally {
+    let ones = [1u8; 16];
+    let t = list(t, b"\x03\x02", 0, 0x2C00_0000, 0, 0x1400_0000);
     let t = list(
         t,
         b"\x05\x02\x02\x01\x01\x01",
@@ -82,15 +81,29 @@ pub fn lists() -> Tally {
         0x0578_0000,
     );
     let t = list(t, b"\x10", 0, 0x3FFF_C000, 0, 0x0000_8000);
-    let t = list(t, &ones[..16], 0, 0x0000_4000, 0, 0x7FFF_8000);
-    let t = list(t, b"", 0, 0, 0, 0);
-    let t = list(t, b"\x11", 2, 0, 4, 0);
-    let t = list(t, b"\x10\x01", 2, 0, 4, 0);
-    let t = list(t, &ones[..17], 2, 0, 4, 0);
+    let t = list(t, &ones, 0, 0x0000_4000, 0, 0x7FFF_8000);
+    list(t, b"", 0, 0, 0, 0)
+}
+
+// Lists that are refused.
+fn lists_refused(t: Tally) -> Tally {
     let t = list(t, b"\x00", 3, 0, 3, 0);
     let t = list(t, b"\x01\x02", 3, 0, 3, 0);
+    let t = list(t, b"\x11", 2, 0, 4, 0);
+    let t = list(t, b"\x10\x01", 2, 0, 4, 0);
+    list(t, &[1u8; 17], 2, 0, 4, 0)
+}
+
+// The same with 300 parts.
+fn lists_long(t: Tally) -> Tally {
+    let mut ones = [1u8; 300];
+    let long = [200u8; 300];
     let t = list(t, &ones, 2, 0, 4, 0);
     let t = list(t, &long, 2, 0, 4, 0);
     ones[299] = 2;
     list(t, &ones, 3, 0, 3, 0)
+}
+
+pub fn lists() -> Tally {
+    lists_long(lists_refused(lists_given(Tally::new())))
 }

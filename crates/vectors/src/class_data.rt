@@ -42,12 +42,12 @@ pub fn count(parts: &[u8]) -> Counted {
 pub fn sign_agrees(word: u32, counted: Counted) -> bool {
     let told = words::classes::sign(word);
     let expected = if counted.plus { 1 } else { -1 };
-    told.refused == 0 && told.number == expected
+    (told.refused == 0) & (told.number == expected)
 }
 
 pub fn period_agrees(word: u32, counted: Counted) -> bool {
     let told = words::classes::period(word);
-    told.refused == 0 && natural(told.number) == counted.product
+    (told.refused == 0) & (natural(told.number) == counted.product)
 }
 
 pub fn size(word: u32) -> u64 {

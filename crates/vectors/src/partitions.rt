@@ -9,8 +9,8 @@ fn least(a: u8, b: u8) -> u8
     if b < a { b } else { a }
 }
 
-// From a place on, the longest parts that are at most `longest` and sum to `left`: from 0 on, with n for both, the first
-// partition of n. The count of all parts is the answer.
+// From a place on, the longest parts that are at most `longest` and sum to `left`: from 0 on, with n for both, the
+// first partition of n. The count of all parts is the answer.
 pub fn fill(parts: &mut [u8], from: usize, longest: u8, left: u8) -> usize
     requires { ⌜ from ≤ length (now parts) ⌝ }
     ensures { λ r. ⌜ Counts r (now (parts .exit)) ⌝ }

@@ -8,9 +8,10 @@ use super::columns::there_and_back;
 use super::conjugates;
 use super::partitions;
 use super::tally::Tally;
+use words::WordAnswer;
 
-// What each check found, and of the degree that is being walked the number of partitions met, the class word of the last
-// one and the sum of the sizes of the classes.
+// What each check found, and of the degree that is being walked the number of partitions met, the class word of the
+// last one and the sum of the sizes of the classes.
 pub struct Found {
     pub shapes: Tally,
     pub classes: Tally,
@@ -25,31 +26,40 @@ pub struct Found {
     sum: u64,
 }
 
+// The checks on the two words of a partition of n.
+fn meet_words(found: Found, shape: WordAnswer, class: WordAnswer, parts: &[u8], n: u8) -> Found {
+    let columns = fit(Kind::Shape, shape.word, parts) & fit(Kind::Class, class.word, parts);
+    let mut f = found;
+    f.shapes = f.shapes.add(there_and_back(Kind::Shape, shape, parts, n));
+    f.classes = f.classes.add(there_and_back(Kind::Class, class, parts, n));
+    f.columns = f.columns.add(columns);
+    f.conjugates = f.conjugates.add(conjugates::agrees(shape.word, parts));
+    f
+}
+
+// The checks on what its class tells.
+fn meet_class(found: Found, class: u32, parts: &[u8]) -> Found {
+    let counted = class_data::count(parts);
+    let mut f = found;
+    f.signs = f.signs.add(sign_agrees(class, counted));
+    f.periods = f.periods.add(period_agrees(class, counted));
+    f.rises = f.rises.add((f.number == 0) | (f.last < class));
+    f.number = std::num::wrapping_add_u64(f.number, 1);
+    f.last = class;
+    f.sum = std::num::wrapping_add_u64(f.sum, class_data::size(class));
+    f
+}
+
 // The checks on a partition of n.
 fn meet(found: Found, parts: &[u8], n: u8) -> Found {
     let shape = words::shapes::word(parts);
     let class = words::classes::word(parts);
-    let counted = class_data::count(parts);
-    let columns = fit(Kind::Shape, shape.word, parts) && fit(Kind::Class, class.word, parts);
-    let mut f = found;
-    f.shapes = f.shapes.add(there_and_back(Kind::Shape, shape, parts, n));
-    f.classes = f.classes.add(there_and_back(Kind::Class, class, parts, n));
-    f.rises = f.rises.add(f.number == 0 || f.last < class.word);
-    f.columns = f.columns.add(columns);
-    f.conjugates = f.conjugates.add(conjugates::agrees(shape.word, parts));
-    f.signs = f.signs.add(sign_agrees(class.word, counted));
-    f.periods = f.periods.add(period_agrees(class.word, counted));
-    f.number = std::num::wrapping_add_u64(f.number, 1);
-    f.last = class.word;
-    f.sum = std::num::wrapping_add_u64(f.sum, class_data::size(class.word));
-    f
+    meet_class(meet_words(found, shape, class, parts, n), class.word, parts)
 }
 
-// All partitions of n, and their number on standard output. A walk that did not end would stop after 300.
-fn of_degree(found: Found, n: u8, factorial: u64) -> Found {
+// All partitions of n. A walk that did not end would stop after 300.
+fn partitions_of(found: Found, n: u8) -> Found {
     let mut f = found;
-    f.number = 0;
-    f.sum = 0;
     let mut parts = [0u8; 16];
     let mut count = partitions::fill(&mut parts, 0, n, n);
     let mut left = 300u32;
@@ -61,16 +71,24 @@ fn of_degree(found: Found, n: u8, factorial: u64) -> Found {
         }
         left -= 1;
     }
+    f
+}
+
+// All partitions of n: their number on standard output, and whether the sizes of their classes sum to n!.
+fn of_degree(found: Found, n: u8, factorial: u64) -> Found {
+    let mut f = found;
+    f.number = 0;
+    f.sum = 0;
+    f = partitions_of(f, n);
     io::write_all(1, b" ");
     io::print_decimal(1, f.number);
     f.sizes = f.sizes.add(f.sum == factorial);
     f
 }
 
-pub fn all() -> Found {
-    io::write_all(1, b"partitions of degree 0 to 16:");
+fn nothing() -> Found {
     let none = Tally::new();
-    let mut found = Found {
+    Found {
         shapes: none,
         classes: none,
         rises: none,
@@ -82,7 +100,12 @@ pub fn all() -> Found {
         number: 0,
         last: 0,
         sum: 0,
-    };
+    }
+}
+
+pub fn all() -> Found {
+    io::write_all(1, b"partitions of degree 0 to 16:");
+    let mut found = nothing();
     let mut n = 0u8;
     let mut factorial = 1u64;
     while n <= 16 {

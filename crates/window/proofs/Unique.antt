@@ -54,7 +54,8 @@ pub zembrusha-character-degree-once : (κs : _) (a : _) (r r′ : _) (s s′ : _
     → character-degree.Post κs a r′ s′ → r ≡ r′
 zembrusha-character-degree-once κs a r r′ s s′ p q = p ∙ sym q
 
-pub zembrusha-character-degree-refusal-once : (κs : _) (a : _) (r r′ : _) (s s′ : _) → character-degree-refusal.Post κs a r s
+pub zembrusha-character-degree-refusal-once : (κs : _) (a : _) (r r′ : _) (s s′ : _)
+    → character-degree-refusal.Post κs a r s
     → character-degree-refusal.Post κs a r′ s′ → r ≡ r′
 zembrusha-character-degree-refusal-once κs a r r′ s s′ p q = p ∙ sym q
 
@@ -101,11 +102,13 @@ zembrusha-class-word-once κs a r r′ s s′ p q = p ∙ sym q
 
 pub zembrusha-shape-parts-once : (κs : _) (a : _) (r r′ : _) (s s′ : _) → shape-parts.Post κs a r s
     → shape-parts.Post κs a r′ s′ → (r ≡ r′) × (now (s .1 .0) ≡ now (s′ .1 .0))
-zembrusha-shape-parts-once κs a r r′ s s′ p q = one-outcome (counted (shapePartsInto degreeLimit (a .0) (now (a .1 .0)))) p q
+zembrusha-shape-parts-once κs a r r′ s s′ p q =
+    one-outcome (counted (shapePartsInto degreeLimit (a .0) (now (a .1 .0)))) p q
 
 pub zembrusha-class-parts-once : (κs : _) (a : _) (r r′ : _) (s s′ : _) → class-parts.Post κs a r s
     → class-parts.Post κs a r′ s′ → (r ≡ r′) × (now (s .1 .0) ≡ now (s′ .1 .0))
-zembrusha-class-parts-once κs a r r′ s s′ p q = one-outcome (counted (classPartsInto degreeLimit (a .0) (now (a .1 .0)))) p q
+zembrusha-class-parts-once κs a r r′ s s′ p q =
+    one-outcome (counted (classPartsInto degreeLimit (a .0) (now (a .1 .0)))) p q
 
 pub zembrusha-column-once : (κs : _) (a : _) (r r′ : _) (s s′ : _) → column.Post κs a r s → column.Post κs a r′ s′
     → (r ≡ r′) × (now (s .1 .0) ≡ now (s′ .1 .0))

@@ -1,4 +1,4 @@
-// Calls with a lent run: a pointer, then a length. Each answers a number by value: the word or the count, 0 when refused.
+// Calls with a lent run: a pointer, then a length. Each answers a number by value: word or count, 0 when refused.
 ghost use mathlib.Core.Path.{_≡_};
 ghost use Rattle.theory.specs.Refusals.{degreeLimit};
 ghost use Rattle.words.specs.Answers.{Outcome};
@@ -44,7 +44,8 @@ pub extern "C" fn zembrusha_class_word(parts: &[u8]) -> Number
 // The rows of a shape word to the front of a column; their count.
 #[no_mangle]
 pub extern "C" fn zembrusha_shape_parts(shape: u32, column: &mut [u8]) -> Number
-    ensures { λ r. ⌜ Outcome (counted (shapePartsInto degreeLimit shape (now (column .entry)))) r (now (column .exit)) ⌝ }
+    ensures { λ r. ⌜ Outcome (counted (shapePartsInto degreeLimit shape (now (column .entry))))
+        r (now (column .exit)) ⌝ }
 {
     of_count(words::shapes::parts(shape, column))
 }
@@ -52,7 +53,8 @@ pub extern "C" fn zembrusha_shape_parts(shape: u32, column: &mut [u8]) -> Number
 // The parts of a class word to the front of a column; their count.
 #[no_mangle]
 pub extern "C" fn zembrusha_class_parts(class: u32, column: &mut [u8]) -> Number
-    ensures { λ r. ⌜ Outcome (counted (classPartsInto degreeLimit class (now (column .entry)))) r (now (column .exit)) ⌝ }
+    ensures { λ r. ⌜ Outcome (counted (classPartsInto degreeLimit class (now (column .entry))))
+        r (now (column .exit)) ⌝ }
 {
     of_count(words::classes::parts(class, column))
 }

@@ -50,7 +50,8 @@ pub extern "C" fn zembrusha_open(shape: u32, class: u32, page: &mut [u64]) -> Ha
 // Strikes a cycle from a line.
 #[no_mangle]
 pub extern "C" fn zembrusha_step(slip: Slip, page: &mut [u64], line: u64, cycle: u64) -> Handed
-    ensures { λ r. ⌜ Outcome (handedRun (step degreeLimit (given slip) (now (page .entry)) line cycle)) r (now (page .exit)) ⌝ }
+    ensures { λ r. ⌜ Outcome (handedRun (step degreeLimit (given slip) (now (page .entry)) line cycle))
+        r (now (page .exit)) ⌝ }
 {
     let stepped = characters::sessions::step(slip_in(slip), page, line as usize, cycle);
     let next = stepped.slip;

@@ -43,7 +43,8 @@ number-requires c κs =
     answer-fits _ (t .before .before .before .args .out .now) (c .number-arg2 .given .0 .1) (nothing t)
 
 returns : tie.Need-returns
-returns c = answered _ _ (c .before .number-arg2 .given .0 .1) (nothing (c .before .before .before)) (c .number .ensures)
+returns c =
+    answered _ _ (c .before .number-arg2 .given .0 .1) (nothing (c .before .before .before)) (c .number .ensures)
 
 slice-aggregate-number-2 : tie.Need-slice-aggregate-number-2
 slice-aggregate-number-2 c = search needs

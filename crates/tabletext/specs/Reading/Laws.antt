@@ -4,7 +4,8 @@ use mathlib.Core.Logic.{⊎-elim}
 use Prim.Native.Nat.{_<_}
 use native.Mathlib.Omega.{arith}
 use borrow.Author.Tests.{eqb-true, leb-true}
-use Rattle.theory.specs.Basics.{Bool, true, false, cond, _&&_, List, [], _∷_, ℕ, _+_, _-_, _*_, length, getD, _=?_, _≤?_}
+use Rattle.theory.specs.Basics.{Bool, true, false, cond, _&&_, List, [], _∷_, length, getD}
+use Rattle.theory.specs.Basics.{ℕ, _+_, _-_, _*_, _=?_, _≤?_}
 use Rattle.tabletext.specs.Table.{Text, decimal, asked}
 use Rattle.tabletext.specs.Table.Asked.{asking, every-number, asked-for, one-or-none}
 use Rattle.tabletext.specs.Reading.{none, digit, candidate}

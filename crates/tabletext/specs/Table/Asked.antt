@@ -63,7 +63,8 @@ asked-for n h = same-text (asked (asking n)) (n ∷ []) (every-number (λ n. sam
 
 pub one-or-none : (input : Text) → (asked input ≡ []) ⊎ ((n : ℕ) × (n < 100) × (input ≡ asking n))
 unfolding asked
-one-or-none input = go (asked input) (each-keep (λ n. same input (asking n)) (_< 100) numbers (each-number (_< 100) (λ n h. h)))
+one-or-none input =
+    go (asked input) (each-keep (λ n. same input (asking n)) (_< 100) numbers (each-number (_< 100) (λ n h. h)))
   where
     go : (ns : List ℕ) → Each (λ n. (n < 100) × (same input (asking n) ≡ true)) ns
         → (ns ≡ []) ⊎ ((n : ℕ) × (n < 100) × (input ≡ asking n))
@@ -90,7 +91,8 @@ long-asks-nothing : (input : Text) → 10 < length input → asked input ≡ []
 long-asks-nothing input h =
     ⊎-elim (λ e. e) (λ w. absurd (omega (arith, asking-short (w .0) (w .1), ap length (w .2)))) (one-or-none input)
 
-pub long-input : (limit : ℕ) (input : Text) → 64 ≤ length input → chartable limit input ≡ chartable limit (take 64 input)
+pub long-input : (limit : ℕ) (input : Text) → 64 ≤ length input
+    → chartable limit input ≡ chartable limit (take 64 input)
 long-input limit input h =
     let first = long-asks-nothing (take 64 input) (omega (arith, length-take 64 input)) in
     asks-nothing limit input (long-asks-nothing input (omega arith)) ∙ sym (asks-nothing limit (take 64 input) first)

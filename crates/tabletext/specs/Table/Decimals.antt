@@ -1,5 +1,5 @@
--- Decimal text: it is the fewest digits that hold the number, and a number below 10^k has at most k of them. What a sign
--- adds.
+-- Decimal text: it is the fewest digits that hold the number, and a number below 10^k has at most k of them. What a
+-- sign adds.
 use mathlib.Core.Path.{_≡_, refl}
 use Prim.Native.Nat.{_≤_, _<_}
 use native.Mathlib.Nat.{pow-suc, pow-le-pow-right, lt-of-not-le}

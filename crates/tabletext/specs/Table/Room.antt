@@ -6,7 +6,7 @@ use Prim.Native.Nat.{_≤_, _<_}
 use native.Mathlib.Omega.{arith}
 use lib.ListN.{length-append, length-map}
 use borrow.Author.Tests.{leb-true, ltb-true, ltb-false}
-use Rattle.theory.specs.Basics.{not, List, [], _∷_, _++_, map, ℕ, zero, suc, _+_, _*_, _^_, length, getD}
+use Rattle.theory.specs.Basics.{not, List, [], _∷_, _++_, map, ℕ, zero, suc, _+_, _*_, _^_, ℤ, length, getD}
 use Rattle.theory.specs.Basics.{_=?_, _<?_, _≤?_, joined}
 use Rattle.theory.specs.Basics.Laws.{Each, each-same, each-map, each-member}
 use Rattle.theory.specs.Basics.Places.{every-at}
@@ -24,8 +24,8 @@ use Rattle.theory.specs.Listing.Order.{Fits, each-listed}
 use Rattle.theory.specs.Listing.Columns.{column-length}
 use Rattle.theory.specs.Refusals.{Row, degreeLimit, firstOf, judged, no-12, no-13}
 use Rattle.theory.specs.Refusals.Laws.{none-applies}
-use Rattle.tabletext.specs.Table.{Text, ascii, decimal, integer, commas, line, field, classText, classLines, table, asked}
-use Rattle.tabletext.specs.Table.{chartable}
+use Rattle.tabletext.specs.Table.{Text, ascii, decimal, integer, commas, line, field}
+use Rattle.tabletext.specs.Table.{classText, classLines, table, asked, chartable}
 use Rattle.tabletext.specs.Table.Decimals.{decimal-most, integer-length}
 use Rattle.tabletext.specs.Table.Lists.{commas-length}
 
@@ -40,6 +40,9 @@ number-line : (name : Text) (n : ℕ) → length (line name (decimal n)) ≤ len
 number-line name n = omega (arith, line-length name (decimal n), decimal-most n)
 
 -- ---- a class
+abbrev Short : ℤ → Type 0
+Short z = length (integer z) ≤ 15
+
 module _ (n : ℕ) (h : n ≤ degreeLimit) where
   pub listing-few : length (listing n) ≤ 231
   unfolding partitionCounts
@@ -54,20 +57,21 @@ module _ (n : ℕ) (h : n ≤ degreeLimit) where
   factorial-small = omega (arith, factorial-rises n 16 h)
 
   module _ (class : Parts) (f : Fits n n class) where
-    value-short : (shape : Parts) → Fits n n shape → length (integer (shape on class)) ≤ 15
+    value-short : (shape : Parts) → Fits n n shape → Short (shape on class)
     value-short shape g =
-        let small = character-bounded shape class (g .partition) (no-zero class (f .partition)) (g .whole ∙ sym (f .whole)) in
+        let full = no-zero class (f .partition) in
+        let small = character-bounded shape class (g .partition) full (g .whole ∙ sym (f .whole)) in
         integer-length (shape on class) 13 (omega (arith, factorial-small, rw (f .whole) at small))
 
-    each-value : Each (λ z. length (integer z) ≤ 15) (column class)
+    each-value : Each Short (column class)
     unfolding column
     each-value =
-        let each = each-map (Fits n n) (λ z. length (integer z) ≤ 15) (_on class) (listing n) value-short (each-listed n) in
+        let each = each-map (Fits n n) Short (_on class) (listing n) value-short (each-listed n) in
         rw (← f .whole) at each
 
     values-short : length (commas (map integer (column class))) ≤ 231 * 16
     values-short =
-        let each = each-map (λ z. length (integer z) ≤ 15) (λ t. length t ≤ 15) integer (column class) (λ z s. s) each-value in
+        let each = each-map Short (λ t. length t ≤ 15) integer (column class) (λ z s. s) each-value in
         omega (
           arith,
           commas-length 15 (map integer (column class)) each,
@@ -79,7 +83,8 @@ module _ (n : ℕ) (h : n ≤ degreeLimit) where
 
     parts-short : length (commas (map decimal class)) ≤ 16 * 21
     parts-short =
-        let each = each-map (λ p. Unit {0}) (λ t. length t ≤ 20) decimal class (λ p u. decimal-most p) (each-member _ class (λ p m. tt)) in
+        let parts = each-member (λ p. Unit {0}) class (λ p m. tt) in
+        let each = each-map (λ p. Unit {0}) (λ t. length t ≤ 20) decimal class (λ p u. decimal-most p) parts in
         omega (
           arith,
           commas-length 20 (map decimal class) each,
@@ -113,7 +118,8 @@ module _ (n : ℕ) (h : n ≤ degreeLimit) where
       let k : Text = field "count=" (decimal (length (listing n))) in
       let c : Text = joined classLines (listing n) in
       let e : Text = field "end=" (decimal (length (listing n))) in
-      let each = each-same (Fits n n) (λ class. length (classLines class) ≤ 4100) (listing n) class-short (each-listed n) in
+      let most : Parts → Type 0 = λ class. length (classLines class) ≤ 4100 in
+      let each = each-same (Fits n n) most (listing n) class-short (each-listed n) in
       omega (
         arith,
         length-append (d ++ k ++ c) e,

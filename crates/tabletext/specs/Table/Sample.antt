@@ -6,11 +6,13 @@ use Rattle.theory.specs.Character.{character}
 use Rattle.theory.specs.ClassData.{classDivisor, classSize}
 use Rattle.theory.specs.Listing.{partitions, listing, same, column}
 use Rattle.theory.specs.Refusals.{degreeLimit}
-use Rattle.tabletext.specs.Table.{Text, ascii, decimal, integer, commas, classText, classLines, table, asked, chartable}
+use Rattle.tabletext.specs.Table.{Text, ascii, decimal, integer, commas}
+use Rattle.tabletext.specs.Table.{classText, classLines, table, asked, chartable}
 
 unfoldable pub degree-3 : Text
 degree-3 =
-    ascii "degree=3\ncount=3\n" ++ ascii "class=3\nsize=2\nvalues=1,-1,1\n" ++ ascii "class=2,1\nsize=3\nvalues=1,0,-1\n"
+    ascii "degree=3\ncount=3\n" ++ ascii "class=3\nsize=2\nvalues=1,-1,1\n"
+    ++ ascii "class=2,1\nsize=3\nvalues=1,0,-1\n"
     ++ ascii "class=1,1,1\nsize=1\nvalues=1,2,1\n" ++ ascii "end=3\n"
 
 pub sample : same (chartable degreeLimit (ascii "degree=3\n")) degree-3 ≡ true

@@ -8,7 +8,8 @@ use lib.Seq.{sets, length-sets, sets-eq, take-append-seam}
 use Rattle.theory.specs.Basics.{List, [], _∷_, _++_, ℕ, suc, _+_, length, take, drop}
 use Rattle.tabletext.specs.Writing.{Wrote}
 
-sets-append : (bytes : List ℕ) (at : ℕ) (t u : List ℕ) → sets bytes at (t ++ u) ≡ sets (sets bytes at t) (at + length t) u
+sets-append : (bytes : List ℕ) (at : ℕ) (t u : List ℕ)
+    → sets bytes at (t ++ u) ≡ sets (sets bytes at t) (at + length t) u
 sets-append bytes at [] u = rw add-zero
 sets-append bytes at (x ∷ t) u = rw (add-suc, ← suc-add) (sets-append (set bytes at x) (suc at) t u)
 
@@ -34,7 +35,7 @@ pub wrote-none : (at : ℕ) (bytes : List ℕ) → Wrote [] at bytes at bytes
 wrote-none at bytes = record { ends = omega arith; leaves = refl }
 
 -- ---- a text at the front
-module _ {t before : List ℕ} {end : ℕ} {after : List ℕ} (w : Wrote t 0 before end after) (h : length t ≤ length before) where
+module _ {t before after : List ℕ} {end : ℕ} (w : Wrote t 0 before end after) (h : length t ≤ length before) where
   pub wrote-first : after ≡ t ++ drop (length t) before
   wrote-first = w .leaves ∙ rw (sets-eq t before 0 (omega arith), zero-add)
 

@@ -17,7 +17,8 @@ module _ (c : tie.Start) where
   abbrev values-line : Text
   values-line = field "values=" (commas (map integer (c .args .column .now)))
 
-two-lines : (c : tie.After-number) → let s = c .before .before .before .before .before .before .before .before .before in
+two-lines : (c : tie.After-number)
+    → let s = c .before .before .before .before .before .before .before .before .before in
     Wrote (class-line s ++ size-line s) (s .args .at) (s .args .out .now) (c .number .result) (c .number .last .1 .1 .0)
 two-lines c = wrote-then (c .before .before .before .before .before .parts .ensures) (c .number .ensures)
 

@@ -7,7 +7,8 @@ use Rattle.tabletext.specs.Writing.Laws.{first-room, wrote-room, wrote-t
 use Rattle.tabletext.proofs.fields.parts.Statement.{statement}
 use Rattle.tabletext.proofs.fields.parts.Tie as tie
 
-named : (c : tie.After-parts) → let a = c .before .before .before .before .before .before .before .before .before .args in
+named : (c : tie.After-parts)
+    → let a = c .before .before .before .before .before .before .before .before .before .args in
     Wrote (ascii "class=" ++ commas (map decimal (a .parts .now))) (a .at) (a .out .now) (c .parts .result)
     (c .parts .last .1 .0)
 named c = wrote-then (c .before .before .before .before .put .ensures) (c .parts .ensures)

@@ -5,7 +5,8 @@ use borrow.Author.Needs.{needs}
 use Rattle.theory.specs.Basics.{_-_, length}
 use Rattle.tabletext.specs.Table.{decimal}
 use Rattle.tabletext.specs.Writing.Laws.{wrote-length}
-use Rattle.tabletext.proofs.ListLoops.{Reached, reached-none, reached-next, reached-all, separator-room, element-room}
+use Rattle.tabletext.proofs.ListLoops.{Reached, reached-none, reached-next, reached-all}
+use Rattle.tabletext.proofs.ListLoops.{separator-room, element-room}
 use Rattle.tabletext.proofs.lists.parts.Statement.{statement}
 use Rattle.tabletext.proofs.lists.parts.Tie as tie
 use Rattle.tabletext.proofs.lists.parts.Reads as reads
@@ -32,7 +33,9 @@ shared-slice-read-decimal : tie.Need-shared-slice-read-decimal Inv-loop μ-loop
 shared-slice-read-decimal c = search needs
 
 cast-decimal : tie.Need-cast-decimal Inv-loop μ-loop
-cast-decimal c = omega (arith, c .shared-slice-known2 .given (c .before .before .before .before .before .before .loop .i))
+cast-decimal c =
+    let i = c .before .before .before .before .before .before .loop .i in
+    omega (arith, c .shared-slice-known2 .given i)
 
 decimal-requires : tie.Need-decimal-requires Inv-loop μ-loop
 decimal-requires c κs =

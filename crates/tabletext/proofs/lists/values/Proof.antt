@@ -6,7 +6,8 @@ use borrow.Author.Needs.{needs, sfits-of}
 use Rattle.theory.specs.Basics.{_-_, length, pos}
 use Rattle.tabletext.specs.Table.{integer}
 use Rattle.tabletext.specs.Writing.Laws.{wrote-length}
-use Rattle.tabletext.proofs.ListLoops.{Reached, reached-none, reached-next, reached-all, separator-room, element-room}
+use Rattle.tabletext.proofs.ListLoops.{Reached, reached-none, reached-next, reached-all}
+use Rattle.tabletext.proofs.ListLoops.{separator-room, element-room}
 use Rattle.tabletext.proofs.lists.values.Statement.{statement}
 use Rattle.tabletext.proofs.lists.values.Tie as tie
 use Rattle.tabletext.proofs.lists.values.Reads as reads
@@ -55,10 +56,11 @@ loop-again c =
     let e = c .before .before in
     let p = e .before .before .before .before .before in
     let l = p .before .before in
-    let s = l .before .before .before in (
+    let s = l .before .before .before in
+    let element = rw (toZ-ofZ (sfits-of (e .before .before .integer-arg .given))) at (e .integer .ensures) in (
       omega arith,
       reached-next integer (s .args .values .now) _ _ (l .before .loop .inv .1) (pos 0) (l .loop-test .taken)
-          (p .separator .ensures) (rw (toZ-ofZ (sfits-of (e .before .before .integer-arg .given))) at (e .integer .ensures)),
+          (p .separator .ensures) element,
     )
 
 same-length : tie.Need-same-length Inv-loop μ-loop

@@ -24,10 +24,14 @@ digit-requires c κs = search needs
 
 returns : tie.Need-returns
 unfolding candidate
-returns c = rw (eq-eqb (length (c .before .before .before .before .args .input .now)) 9 (c .if1 .taken)) (first (c .before))
+returns c =
+    let input = c .before .before .before .before .args .input .now in
+    rw (eq-eqb (length input) 9 (c .if1 .taken)) (first (c .before))
 
 mul-result : tie.Need-mul-result
-mul-result c = omega (arith, first (c .before), digit-small (getD (c .before .before .before .before .args .input .now) 7 0))
+mul-result c =
+    let input = c .before .before .before .before .args .input .now in
+    omega (arith, first (c .before), digit-small (getD input 7 0))
 
 byte-at-requires-2 : tie.Need-byte-at-requires-2
 byte-at-requires-2 c κs = search needs
@@ -38,7 +42,8 @@ digit-requires-2 c κs = search needs
 add-result : tie.Need-add-result
 add-result c =
     let input = c .before .before .before .before .before .before .args .input .now in
-    omega (arith, first (c .before .before .before), second c, digit-small (getD input 7 0), digit-small (getD input 8 0))
+    let tens = first (c .before .before .before) in
+    omega (arith, tens, second c, digit-small (getD input 7 0), digit-small (getD input 8 0))
 
 returns-2 : tie.Need-returns-2
 unfolding candidate

@@ -39,18 +39,18 @@ size c =
     let s = a .before .before in
     size-of-rank (s .args .degree) (s .args .rank) (s .pre .0) (s .pre .1 .0) _ (word a) _ (c .size .ensures)
 
-values : (c : tie.After-column)
-    → FrontGiven (column (class (c .before .before .before .before .before .before .before .before))) (c .column .result)
-    (c .column .last .1 .0)
+values : (c : tie.After-column) → let s = c .before .before .before .before .before .before .before .before in
+    FrontGiven (column (class s)) (c .column .result) (c .column .last .1 .0)
 values c =
     let a = c .before .before .before .before .before .before in
     let s = a .before .before in
     column-of-rank (s .args .degree) (s .args .rank) (s .pre .0) (s .pre .1 .0) _ (word a) _ _ (c .column .ensures)
 
 -- what the lines are made of is the class's own
-text : (c : tie.After-column) → let s = c .before .before .before .before .before .before .before .before in
+text : (c : tie.After-column) → let p = c .before .before .before .before in
+    let s = p .before .before .before .before in
     classText
-    (take (c .before .before .before .before .parts2 .result .count) (c .before .before .before .before .parts2 .last .1 .0))
+    (take (p .parts2 .result .count) (p .parts2 .last .1 .0))
     (natAbs (toZ w64 (ofZ w64 (c .before .before .size .result .number))))
     (take (c .column .result .count) (c .column .last .1 .0)) ≡ classLines (class s)
 unfolding classLines
@@ -84,7 +84,8 @@ cast-class : tie.Need-cast-class
 cast-class c =
     let s = c .before .before .before .before .before .before in
     let a = s .before .before .before .before .before .before in
-    rw (size s) (tt, record { fits = omega (arith, size-fits (a .args .degree) (a .args .rank) (a .pre .0) (a .pre .1 .0)) })
+    let most = size-fits (a .args .degree) (a .args .rank) (a .pre .0) (a .pre .1 .0) in
+    rw (size s) (tt, record { fits = omega (arith, most) })
 
 array-share-prefix-values : tie.Need-array-share-prefix-values
 array-share-prefix-values c = values (c .before .before .before .before) .inside

@@ -26,8 +26,9 @@ within : (c : tie.In-loop Inv-loop μ-loop)
 within c = omega (arith, c .before .before .before .pre .1 .0)
 
 next : (c : tie.In-loop Inv-loop μ-loop) → let n = c .before .before .before .args .degree in
-    joined classLines (take (suc (c .before .loop .rank)) (listing n))
-    ≡ joined classLines (take (c .before .loop .rank) (listing n)) ++ classLines (getD (listing n) (c .before .loop .rank) [])
+    let r = c .before .loop .rank in
+    joined classLines (take (suc r) (listing n))
+    ≡ joined classLines (take r (listing n)) ++ classLines (getD (listing n) r [])
 next c = joined-next classLines _ [] _ (within c)
 
 loop-holds : tie.Need-loop-holds Inv-loop μ-loop
@@ -57,7 +58,8 @@ loop-again : tie.Need-loop-again Inv-loop μ-loop
 loop-again c =
     let k = c .before .before in
     let l = k .before .before in
-    (omega arith, rw (add-one (l .before .loop .rank), next l) (wrote-then (l .before .loop .inv .1) (k .class .ensures)))
+    let b = l .before in
+    (omega arith, rw (add-one (b .loop .rank), next l) (wrote-then (b .loop .inv .1) (k .class .ensures)))
 
 same-length : tie.Need-same-length Inv-loop μ-loop
 same-length c = wrote-length (c .before .loop .inv .1)
@@ -65,8 +67,9 @@ same-length c = wrote-length (c .before .loop .inv .1)
 returns : tie.Need-returns Inv-loop μ-loop
 returns c =
     let s = c .before .before .before in
-    let all = take-all (c .before .loop .rank) (listing (s .args .degree)) (omega (arith, s .pre .1 .0, c .loop-test .left)) in
-    rw all at (c .before .loop .inv .1)
+    let l = c .before .loop in
+    let all = take-all (l .rank) (listing (s .args .degree)) (omega (arith, s .pre .1 .0, c .loop-test .left)) in
+    rw all at (l .inv .1)
 
 pub classes-spec : {M : Type 1} → statement M
 classes-spec =

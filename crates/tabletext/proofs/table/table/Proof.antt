@@ -40,13 +40,15 @@ module _ (c : tie.Start) where
   room-two = first-room (degree-line ++ count-line) classes _ _ room-three
 
 -- ---- what is written so far
-two : (c : tie.After-number2) → let s = c .before .before .before .before .before .before .before .before .before .before in
+two : (c : tie.After-number2)
+    → let s = c .before .before .before .before .before .before .before .before .before .before in
     Written s (degree-line s ++ count-line s) (c .number2 .result) (c .number2 .last .1 .1 .0)
 two c =
     let n = c .before .before .before .before .before in
     wrote-then (n .number .ensures) (rw (n .before .before .before .count .ensures) at (c .number2 .ensures))
 
-three : (c : tie.After-classes) → let s = c .before .before .before .before .before .before .before .before .before .before .before .before .before .before in
+three : (c : tie.After-classes) → let t = c .before .before .before .before in
+    let s = t .before .before .before .before .before .before .before .before .before .before in
     Written s (degree-line s ++ count-line s ++ classes s) (c .classes .result) (c .classes .last .1 .1 .0)
 three c = wrote-then (two (c .before .before .before .before)) (c .classes .ensures)
 

@@ -1,4 +1,4 @@
--- `tabletext::text::put` meets its contract. Writing what is left of the text behind the place reached writes the whole.
+-- `tabletext::text::put` meets its contract. To write what is left behind the place reached is to write the whole.
 use native.Mathlib.Omega.{arith}
 use native.Mathlib.Numerals.{add-one}
 use mathlib.Core.Path.{_≡_, sym, _∙_, ap}

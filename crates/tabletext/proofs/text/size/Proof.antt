@@ -36,7 +36,8 @@ flipped z f t = go z f (rw (toZ-ofZ f) at t)
     go (pos n) f t = absurd (omega (arith, ltb-true n 0 t))
     go (negsuc n) f t =
         let e : 2 ^ 64 - 1 - (2 ^ 64 - suc n) ≡ suc n - 1 = omega (arith, f .sfits) in
-        (record { same = ap (toZ w64) e ∙ toZ-pos w64 (omega (arith, f .sfits)); small = omega (arith, f .sfits) }, omega arith)
+        let small : suc n - 1 < 2 ^ 63 = omega (arith, f .sfits) in
+        (record { same = ap (toZ w64) e ∙ toZ-pos w64 small; small = small }, omega arith)
 
 plain : (z : ℤ) → SFits w64 z → ltZ (held z) (pos 0) ≡ false → Carried (held z) (natAbs z)
 plain z f t = rw (toZ-ofZ f) (go z f (rw (toZ-ofZ f) at t))

@@ -12,62 +12,40 @@ slice-aggregate-column c = search needs
 column-requires : tie.Need-column-requires
 column-requires c κs = search needs
 
-sign-requires : tie.Need-sign-requires
-sign-requires c κs = search needs
+mul-all-within : tie.Need-mul-all-within
+mul-all-within c = search needs
 
-array-copy-out-first : tie.Need-array-copy-out-first
-array-copy-out-first c = search needs
+sub-all-within : tie.Need-sub-all-within
+sub-all-within c = search needs
 
-sub-last : tie.Need-sub-last
-sub-last c = search needs
+part-all-within-start : tie.Need-part-all-within-start
+part-all-within-start c = search needs
 
-mul-last : tie.Need-mul-last
-mul-last c = search needs
+part-all-within-end : tie.Need-part-all-within-end
+part-all-within-end c = search needs
 
-array-copy-out-last : tie.Need-array-copy-out-last
-array-copy-out-last c = search needs
-
-mul-untouched : tie.Need-mul-untouched
-mul-untouched c = search needs
-
-sub-untouched : tie.Need-sub-untouched
-sub-untouched c = search needs
-
-part-untouched-start : tie.Need-part-untouched-start
-part-untouched-start c = search needs
-
-part-untouched-end : tie.Need-part-untouched-end
-part-untouched-end c = search needs
-
-untouched-requires : tie.Need-untouched-requires
-untouched-requires c κs = search needs
+all-within-requires : tie.Need-all-within-requires
+all-within-requires c κs = search needs
 
 array-share-prefix-values : tie.Need-array-share-prefix-values
 array-share-prefix-values c = search needs
 
-slice-aggregate-all-small : tie.Need-slice-aggregate-all-small
-slice-aggregate-all-small c = sym (length-take-le _ _ (omega arith))
+slice-aggregate-entries : tie.Need-slice-aggregate-entries
+slice-aggregate-entries c = sym (length-take-le _ _ (omega arith))
 
-all-small-requires : tie.Need-all-small-requires
-all-small-requires c κs = search needs
+entries-requires : tie.Need-entries-requires
+entries-requires c κs =
+    let a = c .before .before .before .before .before in
+    omega (arith, length-take-le (a .before .before .args .count) (a .column .last .1 .0) (omega arith))
 
 add-requires : tie.Need-add-requires
 add-requires c κs = search needs
 
-add-requires-2 : tie.Need-add-requires-2
-add-requires-2 c κs = search needs
-
-add-requires-3 : tie.Need-add-requires-3
-add-requires-3 c κs = search needs
-
-add-requires-4 : tie.Need-add-requires-4
-add-requires-4 c κs = search needs
-
 short-stays-requires : tie.Need-short-stays-requires
 short-stays-requires c κs = search needs
 
-add-requires-5 : tie.Need-add-requires-5
-add-requires-5 c κs = search needs
+add-requires-2 : tie.Need-add-requires-2
+add-requires-2 c κs = search needs
 
 returns : tie.Need-returns
 returns c = search needs
@@ -78,23 +56,15 @@ meet-spec =
     (tie.spec
     slice-aggregate-column
     column-requires
-    sign-requires
-    array-copy-out-first
-    sub-last
-    mul-last
-    array-copy-out-last
-    mul-untouched
-    sub-untouched
-    part-untouched-start
-    part-untouched-end
-    untouched-requires
+    mul-all-within
+    sub-all-within
+    part-all-within-start
+    part-all-within-end
+    all-within-requires
     array-share-prefix-values
-    slice-aggregate-all-small
-    all-small-requires
+    slice-aggregate-entries
+    entries-requires
     add-requires
-    add-requires-2
-    add-requires-3
-    add-requires-4
     short-stays-requires
-    add-requires-5
+    add-requires-2
     returns)

@@ -18,14 +18,11 @@ slice-aggregate-short c = sym (length-take-le _ _ (omega arith))
 column-requires : tie.Need-column-requires
 column-requires c κs = search needs
 
-untouched-requires : tie.Need-untouched-requires
-untouched-requires c κs = search needs
+all-within-requires : tie.Need-all-within-requires
+all-within-requires c κs = search needs
 
 returns : tie.Need-returns
 returns c = search needs
-
-returns-2 : tie.Need-returns-2
-returns-2 c = search needs
 
 pub short-stays-spec : {M : Type 1} → statement M
 short-stays-spec =
@@ -35,6 +32,5 @@ short-stays-spec =
     array-borrow-prefix-values
     slice-aggregate-short
     column-requires
-    untouched-requires
-    returns
-    returns-2)
+    all-within-requires
+    returns)

@@ -17,26 +17,17 @@ slice-aggregate-column c = front _ _ (omega arith)
 parts-of-requires : tie.Need-parts-of-requires
 parts-of-requires c κs = search needs
 
+given-requires : tie.Need-given-requires
+given-requires c κs = search needs
+
 slice-aggregate-holds : tie.Need-slice-aggregate-holds
-slice-aggregate-holds c = search needs
+slice-aggregate-holds c = front _ _ (omega arith)
 
 holds-requires : tie.Need-holds-requires
 holds-requires c κs = search needs
 
 returns-2 : tie.Need-returns-2
 returns-2 c = search needs
-
-returns-3 : tie.Need-returns-3
-returns-3 c = search needs
-
-holds-requires-2 : tie.Need-holds-requires-2
-holds-requires-2 c κs = search needs
-
-returns-4 : tie.Need-returns-4
-returns-4 c = search needs
-
-returns-5 : tie.Need-returns-5
-returns-5 c = search needs
 
 pub written-spec : {M : Type 1} → statement M
 written-spec =
@@ -46,10 +37,7 @@ written-spec =
     array-borrow-prefix-all
     slice-aggregate-column
     parts-of-requires
+    given-requires
     slice-aggregate-holds
     holds-requires
-    returns-2
-    returns-3
-    holds-requires-2
-    returns-4
-    returns-5)
+    returns-2)

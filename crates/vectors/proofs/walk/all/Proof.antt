@@ -16,8 +16,8 @@ slice-aggregate-write-all c = search needs
 write-all-requires : tie.Need-write-all-requires Inv-loop μ-loop
 write-all-requires c κs = search needs
 
-new-requires : tie.Need-new-requires Inv-loop μ-loop
-new-requires c κs = search needs
+nothing-requires : tie.Need-nothing-requires Inv-loop μ-loop
+nothing-requires c κs = search needs
 
 loop-holds : tie.Need-loop-holds Inv-loop μ-loop
 loop-holds c = search needs
@@ -54,7 +54,7 @@ all-spec =
     μ-loop
     slice-aggregate-write-all
     write-all-requires
-    new-requires
+    nothing-requires
     loop-holds
     of-degree-requires
     add-n

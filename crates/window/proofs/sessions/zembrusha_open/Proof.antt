@@ -1,8 +1,8 @@
 -- `window::sessions::zembrusha_open` meets its contract: it hands on what the call answers.
-use mathlib.Core.Path.{_∙_, ap}
 use borrow.Author.Needs.{needs}
 use Rattle.characters.specs.declared.Handed.{Handed}
 use Rattle.window.specs.Exports.{handedOver}
+use Rattle.window.proofs.HandedOn.{outcome-of}
 use Rattle.window.proofs.sessions.zembrusha_open.Statement.{statement}
 use Rattle.window.proofs.sessions.zembrusha_open.Tie as tie
 
@@ -18,7 +18,7 @@ same-length c = search needs
 returns : tie.Need-returns
 returns c =
     let o = c .before .before .before .before .open .ensures in
-    record { answers = c .slip-out .ensures ∙ ap (λ (h : Handed). handedOver (h .refused) (h .slip)) (o .answers); leaves = o .leaves }
+    outcome-of (λ (h : Handed). handedOver (h .refused) (h .slip)) (c .slip-out .ensures) o
 
 pub zembrusha-open-spec : {M : Type 1} → statement M
 zembrusha-open-spec = tie.close (tie.spec open-requires slip-out-requires same-length returns)

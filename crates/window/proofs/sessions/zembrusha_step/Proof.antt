@@ -1,8 +1,8 @@
 -- `window::sessions::zembrusha_step` meets its contract: it hands on what the call answers.
-use mathlib.Core.Path.{_∙_, ap}
 use borrow.Author.Needs.{needs}
 use Rattle.characters.specs.declared.Handed.{Handed}
 use Rattle.window.specs.Exports.{handedOver}
+use Rattle.window.proofs.HandedOn.{outcome-of}
 use Rattle.window.proofs.sessions.zembrusha_step.Statement.{statement}
 use Rattle.window.proofs.sessions.zembrusha_step.Tie as tie
 
@@ -22,7 +22,7 @@ returns : tie.Need-returns
 returns c =
     let a = c .before .before .before .before in
     let o = rw (a .before .before .slip-in .ensures) at (a .step .ensures) in
-    record { answers = c .slip-out .ensures ∙ ap (λ (h : Handed). handedOver (h .refused) (h .slip)) (o .answers); leaves = o .leaves }
+    outcome-of (λ (h : Handed). handedOver (h .refused) (h .slip)) (c .slip-out .ensures) o
 
 pub zembrusha-step-spec : {M : Type 1} → statement M
 zembrusha-step-spec =

@@ -1,8 +1,6 @@
 -- `window::singles::zembrusha_class_size` meets its contract: it hands on what the call answers.
-use mathlib.Core.Path.{_∙_, ap}
-use mir.Facts.{toZ-ofZ}
 use borrow.Author.Needs.{needs}
-use Rattle.words.specs.declared.NumberAnswer.{NumberAnswer}
+use Rattle.window.proofs.HandedOn.{number-of}
 use Rattle.window.proofs.singles.zembrusha_class_size.Statement.{statement}
 use Rattle.window.proofs.singles.zembrusha_class_size.Tie as tie
 
@@ -10,7 +8,7 @@ size-requires : tie.Need-size-requires
 size-requires c κs = search needs
 
 returns : tie.Need-returns
-returns c = toZ-ofZ (record { sfits = c .struct-told .given .1 .0 .1 }) ∙ ap (λ (answer : NumberAnswer). answer .number) (c .before .size .ensures)
+returns c = number-of (c .struct-told .given .1 .0 .1) (c .before .size .ensures)
 
 pub zembrusha-class-size-spec : {M : Type 1} → statement M
 zembrusha-class-size-spec = tie.close (tie.spec size-requires returns)

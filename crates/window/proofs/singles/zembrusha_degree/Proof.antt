@@ -1,8 +1,6 @@
 -- `window::singles::zembrusha_degree` meets its contract: it hands on what the call answers.
-use mathlib.Core.Path.{_∙_, ap}
-use mir.Facts.{toZ-ofZ}
 use borrow.Author.Needs.{needs}
-use Rattle.words.specs.declared.NumberAnswer.{NumberAnswer}
+use Rattle.window.proofs.HandedOn.{number-of}
 use Rattle.window.proofs.singles.zembrusha_degree.Statement.{statement}
 use Rattle.window.proofs.singles.zembrusha_degree.Tie as tie
 
@@ -10,7 +8,7 @@ degree-requires : tie.Need-degree-requires
 degree-requires c κs = search needs
 
 returns : tie.Need-returns
-returns c = toZ-ofZ (record { sfits = c .struct-told .given .1 .0 .1 }) ∙ ap (λ (answer : NumberAnswer). answer .number) (c .before .degree .ensures)
+returns c = number-of (c .struct-told .given .1 .0 .1) (c .before .degree .ensures)
 
 pub zembrusha-degree-spec : {M : Type 1} → statement M
 zembrusha-degree-spec = tie.close (tie.spec degree-requires returns)

@@ -1,16 +1,16 @@
--- `vectors::walk::of_degree` is safe and ends. The count is within the sixteen places, and the turns left fall from 300.
+-- `vectors::walk::partitions_of` is safe and ends. The count is within sixteen places; the turns left fall from 300.
 use mathlib.Core.Path.{_≡_}
 use lib.ListN.{length}
 use borrow.Author.Needs.{needs}
 use Rattle.io.specs.Counts.{Counts}
-use Rattle.vectors.proofs.walk.of_degree.Statement.{statement}
-use Rattle.vectors.proofs.walk.of_degree.Tie as tie
+use Rattle.vectors.proofs.walk.partitions_of.Statement.{statement}
+use Rattle.vectors.proofs.walk.partitions_of.Tie as tie
 
 abbrev Inv-loop : tie.InvT-loop
-Inv-loop n factorial f₀ parts₀ count₀ left₀ t8 f parts count left = (16 ≡ length parts) × Counts count parts
+Inv-loop n f₀ parts₀ count₀ left₀ f parts count left = (16 ≡ length parts) × Counts count parts
 
 abbrev μ-loop : tie.MeasureT-loop
-μ-loop n factorial f₀ parts₀ count₀ left₀ t8 f parts count left = left
+μ-loop n f₀ parts₀ count₀ left₀ f parts count left = left
 
 slice-aggregate-fill : tie.Need-slice-aggregate-fill Inv-loop μ-loop
 slice-aggregate-fill c = search needs
@@ -45,23 +45,14 @@ loop-less c = search needs
 loop-again : tie.Need-loop-again Inv-loop μ-loop
 loop-again c = search needs
 
-slice-aggregate-write-all : tie.Need-slice-aggregate-write-all Inv-loop μ-loop
-slice-aggregate-write-all c = search needs
-
-write-all-requires : tie.Need-write-all-requires Inv-loop μ-loop
-write-all-requires c κs = search needs
-
-print-decimal-requires : tie.Need-print-decimal-requires Inv-loop μ-loop
-print-decimal-requires c κs = search needs
-
-add-requires : tie.Need-add-requires Inv-loop μ-loop
-add-requires c κs = search needs
-
 returns : tie.Need-returns Inv-loop μ-loop
 returns c = search needs
 
-pub of-degree-spec : {M : Type 1} → statement M
-of-degree-spec =
+returns-2 : tie.Need-returns-2 Inv-loop μ-loop
+returns-2 c = search needs
+
+pub partitions-of-spec : {M : Type 1} → statement M
+partitions-of-spec =
     tie.close
     (tie.spec
     Inv-loop
@@ -77,8 +68,5 @@ of-degree-spec =
     sub-left
     loop-less
     loop-again
-    slice-aggregate-write-all
-    write-all-requires
-    print-decimal-requires
-    add-requires
-    returns)
+    returns
+    returns-2)

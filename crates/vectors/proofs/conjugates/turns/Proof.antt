@@ -1,15 +1,9 @@
--- `vectors::conjugates::agrees` is safe and ends. The longest part is within the seventeen rows.
+-- `vectors::conjugates::turns` is safe and ends. The longest part is within the seventeen rows.
 use native.Mathlib.Omega.{arith}
 use borrow.Author.Needs.{needs}
 use Rattle.io.proofs.Counting.{front}
-use Rattle.vectors.proofs.conjugates.agrees.Statement.{statement}
-use Rattle.vectors.proofs.conjugates.agrees.Tie as tie
-
-conjugate-requires : tie.Need-conjugate-requires
-conjugate-requires c κs = search needs
-
-conjugate-requires-2 : tie.Need-conjugate-requires-2
-conjugate-requires-2 c κs = search needs
+use Rattle.vectors.proofs.conjugates.turns.Statement.{statement}
+use Rattle.vectors.proofs.conjugates.turns.Tie as tie
 
 slice-aggregate-transpose : tie.Need-slice-aggregate-transpose
 slice-aggregate-transpose c = search needs
@@ -38,15 +32,10 @@ written-requires c κs = search needs
 returns-2 : tie.Need-returns-2
 returns-2 c = search needs
 
-returns-3 : tie.Need-returns-3
-returns-3 c = search needs
-
-pub agrees-spec : {M : Type 1} → statement M
-agrees-spec =
+pub turns-spec : {M : Type 1} → statement M
+turns-spec =
     tie.close
     (tie.spec
-    conjugate-requires
-    conjugate-requires-2
     slice-aggregate-transpose
     transpose-requires
     shared-slice-read-wide
@@ -55,5 +44,4 @@ agrees-spec =
     array-share-prefix-rows
     slice-aggregate-written
     written-requires
-    returns-2
-    returns-3)
+    returns-2)

@@ -1,24 +1,24 @@
--- `tablevectors::columns::untouched` is safe and ends. The index stays within the column.
+-- `tablevectors::columns::all_within` is safe and ends. The index stays within the column.
 use Prim.Native.Nat.{_≤_, _-_}
 use lib.ListN.{length}
 use borrow.Author.Needs.{needs}
-use Rattle.tablevectors.proofs.columns.untouched.Statement.{statement}
-use Rattle.tablevectors.proofs.columns.untouched.Tie as tie
+use Rattle.tablevectors.proofs.columns.all_within.Statement.{statement}
+use Rattle.tablevectors.proofs.columns.all_within.Tie as tie
 
 abbrev Inv-loop : tie.InvT-loop
-Inv-loop values i₀ i = i ≤ length values
+Inv-loop values low high i₀ i = i ≤ length values
 
 abbrev μ-loop : tie.MeasureT-loop
-μ-loop values i₀ i = length values - i
+μ-loop values low high i₀ i = length values - i
 
 loop-holds : tie.Need-loop-holds Inv-loop μ-loop
 loop-holds c = search needs
 
-mul-if1 : tie.Need-mul-if1 Inv-loop μ-loop
-mul-if1 c = search needs
+mul-number : tie.Need-mul-number Inv-loop μ-loop
+mul-number c = search needs
 
-shared-slice-copy-out-if1 : tie.Need-shared-slice-copy-out-if1 Inv-loop μ-loop
-shared-slice-copy-out-if1 c = search needs
+shared-slice-copy-out-number : tie.Need-shared-slice-copy-out-number Inv-loop μ-loop
+shared-slice-copy-out-number c = search needs
 
 returns : tie.Need-returns Inv-loop μ-loop
 returns c = search needs
@@ -35,15 +35,15 @@ loop-again c = search needs
 returns-2 : tie.Need-returns-2 Inv-loop μ-loop
 returns-2 c = search needs
 
-pub untouched-spec : {M : Type 1} → statement M
-untouched-spec =
+pub all-within-spec : {M : Type 1} → statement M
+all-within-spec =
     tie.close
     (tie.spec
     Inv-loop
     μ-loop
     loop-holds
-    mul-if1
-    shared-slice-copy-out-if1
+    mul-number
+    shared-slice-copy-out-number
     returns
     add-i
     loop-less

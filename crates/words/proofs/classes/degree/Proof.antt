@@ -2,7 +2,6 @@
 use mathlib.Core.Path.{ap, _∙_}
 use borrow.Author.Needs.{needs}
 use Rattle.theory.specs.Basics.{ℕ, pos}
-use Rattle.theory.specs.Partition.{degree}
 use Rattle.theory.specs.ClassWord.{classOf}
 use Rattle.theory.specs.Refusals.{degreeLimit, classRows}
 use Rattle.words.specs.Calls.{classDegree}

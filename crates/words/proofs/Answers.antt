@@ -3,7 +3,7 @@
 --   PassedClass w s    what it tells of a class word
 use mathlib.Core.Path.{_≡_, refl, sym, _∙_, ap}
 use Prim.Native.Nat.{_≤_, _<_}
-use borrow.Author.Tests.{le-ltb, lt-ltb}
+use borrow.Author.Tests.{le-ltb, lt-ltb, ltb-false, not-false}
 use Rattle.theory.specs.Basics.{List, [], _∷_, _++_, length, drop, ℕ, zero, suc, ℤ, pos, every, true, _<?_, _^_}
 use Rattle.theory.specs.Partition.{Parts, isPartition, degree}
 use Rattle.theory.specs.ClassWord.{classOf}
@@ -14,7 +14,7 @@ use Rattle.theory.specs.Refusals.Laws.{within-class}
 use Rattle.words.specs.declared.Seen.{Seen}
 use Rattle.words.specs.declared.CountAnswer.{CountAnswer}
 use Rattle.words.specs.Answers.{Outcome, wordAnswer, numberAnswer, countAnswer, worded, numbered, written}
-use Rattle.words.specs.Reading.{found, seen}
+use Rattle.words.specs.Reading.{found, seen, listRows}
 
 -- ---- what a reader found
 pub refused-is : (rows : List Row) (ps : Parts) (s : Seen) → s ≡ seen rows ps → s .refused ≡ firstOf rows
@@ -60,6 +60,13 @@ pub seen-given : (rows : List Row) (ps : Parts) (d n : ℕ) → firstOf rows ≡
     → found 0 d n ≡ seen rows ps
 unfolding seen
 seen-given rows ps d n none ed en = rw (none, ed, en)
+
+-- a part list that no row refuses
+pub within-list : (large : ℕ) (ps : Parts) → 0 <? large ≡ true → firstOf (listRows degreeLimit large ps) ≡ 0
+    → (isPartition ps ≡ true) × (degree ps ≤ degreeLimit)
+within-list large ps l e =
+    let a = none-applies (listRows degreeLimit large ps) (rw l) e in
+    (not-false (isPartition ps) (a .0), ltb-false degreeLimit (degree ps) (a .1 .0))
 
 -- ---- words and numbers
 pub word-refused : (rows : List Row) (w k : ℕ) → k ≡ firstOf rows → (k ≡ 0 → ⊥) → wordAnswer k 0 ≡ worded rows w

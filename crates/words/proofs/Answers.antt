@@ -12,6 +12,7 @@ use Rattle.theory.specs.Refusals.{Row, firstOf, judged, no-14, degreeLimit, cla
 use Rattle.theory.specs.Refusals.Laws.{judged-refused, judged-given, none-applies, none-refuses, first-refuses}
 use Rattle.theory.specs.Refusals.Laws.{within-class}
 use Rattle.words.specs.declared.Seen.{Seen}
+use Rattle.words.specs.declared.NumberAnswer.{NumberAnswer}
 use Rattle.words.specs.declared.CountAnswer.{CountAnswer}
 use Rattle.words.specs.Answers.{Outcome, wordAnswer, numberAnswer, countAnswer, worded, numbered, written}
 use Rattle.words.specs.Reading.{found, seen, listRows}
@@ -78,6 +79,11 @@ word-given rows w v n e = rw (n, e) refl
 pub number-refused : (rows : List Row) (z : ℤ) (k : ℕ) → k ≡ firstOf rows → (k ≡ 0 → ⊥)
     → numberAnswer k (pos 0) ≡ numbered rows z
 number-refused rows z k e n = rw (← e) (sym (judged-refused (λ k. numberAnswer k (pos 0)) (numberAnswer 0 z) k n))
+
+-- a number that is refused with what the reader refused
+pub number-handed : (rows : List Row) (ps : Parts) (s : Seen) (z : ℤ) {r : NumberAnswer} → s ≡ seen rows ps
+    → (s .refused ≡ 0 → ⊥) → r ≡ numberAnswer (s .refused) (pos 0) → r ≡ numbered rows z
+number-handed rows ps s z e n h = h ∙ number-refused rows z (s .refused) (refused-is rows ps s e) n
 
 pub number-given : (rows : List Row) (z v : ℤ) → firstOf rows ≡ 0 → v ≡ z → numberAnswer 0 v ≡ numbered rows z
 number-given rows z v n e = rw (n, e) refl

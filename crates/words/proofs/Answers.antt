@@ -3,14 +3,15 @@
 --   PassedClass w s    what it tells of a class word
 use mathlib.Core.Path.{_≡_, refl, sym, _∙_, ap}
 use Prim.Native.Nat.{_≤_, _<_}
-use borrow.Author.Tests.{le-ltb, lt-ltb, ltb-false, not-false}
+use native.Mathlib.Omega.{arith}
+use borrow.Author.Tests.{le-ltb, lt-ltb, ltb-true, ltb-false, not-false}
 use Rattle.theory.specs.Basics.{List, [], _∷_, _++_, length, drop, ℕ, zero, suc, ℤ, pos, every, true, _<?_, _^_}
 use Rattle.theory.specs.Partition.{Parts, isPartition, degree}
 use Rattle.theory.specs.ClassWord.{classOf}
 use Rattle.theory.specs.ClassWord.Laws.{GoodClass, good-below, class-held}
-use Rattle.theory.specs.Refusals.{Row, firstOf, judged, no-14, degreeLimit, classRows}
+use Rattle.theory.specs.Refusals.{Row, firstOf, judged, no-14, degreeLimit, shapeRows, classRows}
 use Rattle.theory.specs.Refusals.Laws.{judged-refused, judged-given, none-applies, none-refuses, first-refuses}
-use Rattle.theory.specs.Refusals.Laws.{within-class}
+use Rattle.theory.specs.Refusals.Laws.{within, within-class}
 use Rattle.words.specs.declared.Seen.{Seen}
 use Rattle.words.specs.declared.NumberAnswer.{NumberAnswer}
 use Rattle.words.specs.declared.CountAnswer.{CountAnswer}
@@ -38,7 +39,11 @@ passed rows ps s e z =
     let g = e ∙ judged-given (λ k. found k 0 0) (found 0 (degree ps) (length ps)) (firstOf rows) n in
     record { none = n; degree = ap (λ (x : Seen). x .degree) g; count = ap (λ (x : Seen). x .count) g }
 
--- of a class word it tells besides that the word is good and the class within the limit
+-- of a shape word it tells besides that there is no bit 31
+pub shape-below : (w : ℕ) → firstOf (shapeRows degreeLimit w) ≡ 0 → w < 2 ^ 31
+shape-below w e = omega (arith, ltb-true w (2 ^ 30) (within degreeLimit w e .good))
+
+-- and of a class word that the word is good and the class within the limit
 pub record PassedClass (w : ℕ) (s : Seen) : Type 0 where
   pub found : Passed (classRows degreeLimit w) (classOf w) s
   pub below : w < 2 ^ 31

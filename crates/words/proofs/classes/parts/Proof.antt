@@ -7,7 +7,8 @@ use Rattle.theory.specs.Partition.{Parts}
 use Rattle.theory.specs.ClassWord.{classOf}
 use Rattle.theory.specs.Refusals.{degreeLimit, classRows}
 use Rattle.words.specs.Calls.{classPartsInto}
-use Rattle.words.proofs.Answers.{PassedClass, passed-class, refused-is, column-refused, column-short, column-filled}
+use Rattle.words.proofs.Answers.{PassedClass, passed-class, refused-is}
+use Rattle.words.proofs.Answers.{column-refused, column-short, column-filled}
 use Rattle.words.proofs.classes.parts.Statement.{statement}
 use Rattle.words.proofs.classes.parts.Tie as tie
 

@@ -5,7 +5,8 @@ use borrow.Author.Needs.{needs}
 use Rattle.theory.specs.ShapeWord.{shapeOf}
 use Rattle.theory.specs.Refusals.{degreeLimit, shapeRows}
 use Rattle.words.specs.Calls.{shapePartsInto}
-use Rattle.words.proofs.Answers.{Passed, passed, shape-below, refused-is, column-refused, column-short, column-filled}
+use Rattle.words.proofs.Answers.{Passed, passed, shape-below, refused-is}
+use Rattle.words.proofs.Answers.{column-refused, column-short, column-filled}
 use Rattle.words.proofs.shapes.parts.Statement.{statement}
 use Rattle.words.proofs.shapes.parts.Tie as tie
 

@@ -3,18 +3,20 @@
 --   PassedClass w s    what it tells of a class word
 use mathlib.Core.Path.{_≡_, refl, sym, _∙_, ap}
 use Prim.Native.Nat.{_≤_, _<_}
-use borrow.Author.Tests.{le-ltb, lt-ltb}
+use native.Mathlib.Omega.{arith}
+use borrow.Author.Tests.{le-ltb, lt-ltb, ltb-true, ltb-false, not-false}
 use Rattle.theory.specs.Basics.{List, [], _∷_, _++_, length, drop, ℕ, zero, suc, ℤ, pos, every, true, _<?_, _^_}
 use Rattle.theory.specs.Partition.{Parts, isPartition, degree}
 use Rattle.theory.specs.ClassWord.{classOf}
 use Rattle.theory.specs.ClassWord.Laws.{GoodClass, good-below, class-held}
-use Rattle.theory.specs.Refusals.{Row, firstOf, judged, no-14, degreeLimit, classRows}
+use Rattle.theory.specs.Refusals.{Row, firstOf, judged, no-14, degreeLimit, shapeRows, classRows}
 use Rattle.theory.specs.Refusals.Laws.{judged-refused, judged-given, none-applies, none-refuses, first-refuses}
-use Rattle.theory.specs.Refusals.Laws.{within-class}
+use Rattle.theory.specs.Refusals.Laws.{within, within-class}
 use Rattle.words.specs.declared.Seen.{Seen}
+use Rattle.words.specs.declared.NumberAnswer.{NumberAnswer}
 use Rattle.words.specs.declared.CountAnswer.{CountAnswer}
 use Rattle.words.specs.Answers.{Outcome, wordAnswer, numberAnswer, countAnswer, worded, numbered, written}
-use Rattle.words.specs.Reading.{found, seen}
+use Rattle.words.specs.Reading.{found, seen, listRows}
 
 -- ---- what a reader found
 pub refused-is : (rows : List Row) (ps : Parts) (s : Seen) → s ≡ seen rows ps → s .refused ≡ firstOf rows
@@ -37,7 +39,11 @@ passed rows ps s e z =
     let g = e ∙ judged-given (λ k. found k 0 0) (found 0 (degree ps) (length ps)) (firstOf rows) n in
     record { none = n; degree = ap (λ (x : Seen). x .degree) g; count = ap (λ (x : Seen). x .count) g }
 
--- of a class word it tells besides that the word is good and the class within the limit
+-- of a shape word it tells besides that there is no bit 31
+pub shape-below : (w : ℕ) → firstOf (shapeRows degreeLimit w) ≡ 0 → w < 2 ^ 31
+shape-below w e = omega (arith, ltb-true w (2 ^ 30) (within degreeLimit w e .good))
+
+-- and of a class word that the word is good and the class within the limit
 pub record PassedClass (w : ℕ) (s : Seen) : Type 0 where
   pub found : Passed (classRows degreeLimit w) (classOf w) s
   pub below : w < 2 ^ 31
@@ -61,6 +67,13 @@ pub seen-given : (rows : List Row) (ps : Parts) (d n : ℕ) → firstOf rows ≡
 unfolding seen
 seen-given rows ps d n none ed en = rw (none, ed, en)
 
+-- a part list that no row refuses
+pub within-list : (large : ℕ) (ps : Parts) → 0 <? large ≡ true → firstOf (listRows degreeLimit large ps) ≡ 0
+    → (isPartition ps ≡ true) × (degree ps ≤ degreeLimit)
+within-list large ps l e =
+    let a = none-applies (listRows degreeLimit large ps) (rw l) e in
+    (not-false (isPartition ps) (a .0), ltb-false degreeLimit (degree ps) (a .1 .0))
+
 -- ---- words and numbers
 pub word-refused : (rows : List Row) (w k : ℕ) → k ≡ firstOf rows → (k ≡ 0 → ⊥) → wordAnswer k 0 ≡ worded rows w
 word-refused rows w k e n = rw (← e) (sym (judged-refused (λ k. wordAnswer k 0) (wordAnswer 0 w) k n))
@@ -71,6 +84,11 @@ word-given rows w v n e = rw (n, e) refl
 pub number-refused : (rows : List Row) (z : ℤ) (k : ℕ) → k ≡ firstOf rows → (k ≡ 0 → ⊥)
     → numberAnswer k (pos 0) ≡ numbered rows z
 number-refused rows z k e n = rw (← e) (sym (judged-refused (λ k. numberAnswer k (pos 0)) (numberAnswer 0 z) k n))
+
+-- a number that is refused with what the reader refused
+pub number-handed : (rows : List Row) (ps : Parts) (s : Seen) (z : ℤ) {r : NumberAnswer} → s ≡ seen rows ps
+    → (s .refused ≡ 0 → ⊥) → r ≡ numberAnswer (s .refused) (pos 0) → r ≡ numbered rows z
+number-handed rows ps s z e n h = h ∙ number-refused rows z (s .refused) (refused-is rows ps s e) n
 
 pub number-given : (rows : List Row) (z v : ℤ) → firstOf rows ≡ 0 → v ≡ z → numberAnswer 0 v ≡ numbered rows z
 number-given rows z v n e = rw (n, e) refl

@@ -1,4 +1,5 @@
--- A loop that reads a class word, when `at` of its 31 digits have been read and the number `rest` is left of it.
+-- A loop that goes through a word from one to one, when `at` of its 31 digits have been read and the number `rest` is
+-- left of it: a class word part by part, and a shape word for its pairs.
 --   partsLeft at rest   the parts of what is left
 --   Turn at rest        what a turn of the loop reads by the leading zeros of what is left, and takes off it
 use mathlib.Core.Path.{_≡_}

@@ -3,7 +3,8 @@ ghost use mathlib.Core.Path.{_≡_};
 ghost use Prim.Native.Nat.{suc, min};
 ghost use Rattle.theory.specs.Basics.{getD};
 ghost use Rattle.theory.specs.Partition.{isPartition, degree};
-ghost use Rattle.theory.specs.Refusals.{degreeLimit};
+ghost use Rattle.theory.specs.Refusals.{degreeLimit, firstOf};
+ghost use Rattle.words.specs.Reading.{listRows};
 use super::LIMIT;
 
 // A part, and 0 past the end.
@@ -45,4 +46,18 @@ pub fn capped_degree(parts: &[u8]) -> u32
         i += 1;
     }
     degree
+}
+
+// Why a part list is refused: 3 for no partition, then `large` for a degree above the limit; 0 for a list that is not.
+pub fn refusal(parts: &[u8], large: u8) -> u8
+    ensures { λ r. ⌜ r ≡ firstOf (listRows degreeLimit large (now (parts .entry))) ⌝ }
+{
+    if !is_partition(parts) {
+        return 3;
+    }
+    if LIMIT < capped_degree(parts) {
+        large
+    } else {
+        0
+    }
 }

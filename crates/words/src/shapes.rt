@@ -41,17 +41,9 @@ fn bits(parts: &[u8]) -> u32
 pub fn word(parts: &[u8]) -> WordAnswer
     ensures { λ r. ⌜ r ≡ shapeWordFrom degreeLimit (now (parts .entry)) ⌝ }
 {
-    if !lists::is_partition(parts) {
-        return WordAnswer {
-            refused: 3,
-            word: 0,
-        };
-    }
-    if LIMIT < lists::capped_degree(parts) {
-        return WordAnswer {
-            refused: 2,
-            word: 0,
-        };
+    let refused = lists::refusal(parts, 2);
+    if refused != 0 {
+        return WordAnswer { refused, word: 0 };
     }
     WordAnswer {
         refused: 0,

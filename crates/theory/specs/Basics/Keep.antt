@@ -24,10 +24,6 @@ module _ {A : Type 0} where
       let r = each-parts P xs ys (e .1) in
       ((e .0, r .0), r .1)
 
-  pub each-both : (P Q : A → Type 0) (xs : List A) → Each P xs → Each Q xs → Each (λ x. P x × Q x) xs
-  each-both P Q [] e f = tt
-  each-both P Q (x ∷ xs) e f = ((e .0, f .0), each-both P Q xs (e .1) (f .1))
-
   module _ (test : A → Bool) where
     pub every-each : (xs : List A) → every test xs ≡ true → Each (λ x. test x ≡ true) xs
     every-each [] e = tt

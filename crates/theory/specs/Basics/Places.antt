@@ -5,7 +5,8 @@ use Prim.Native.Nat.{_<_}
 use native.Mathlib.Nat.{zero-add, add-zero, add-suc, suc-add}
 use native.Mathlib.Omega.{arith}
 use borrow.Author.Tests.{eqb-true}
-use Rattle.theory.specs.Basics.{Bool, true, _&&_, List, [], _∷_, map, ℕ, zero, suc, _+_, length, getD, _=?_, every}
+use Rattle.theory.specs.Basics.{Bool, true, _&&_, List, [], _∷_, map, every, ℕ, zero, suc, _+_, _=?_}
+use Rattle.theory.specs.Basics.{length, getD}
 use Rattle.theory.specs.Basics.Laws.{Each, both}
 
 pub each-at : {A : Type 0} (P : A → Type 0) (xs : List A) (d : A) (i : ℕ) → Each P xs → i < length xs → P (getD xs i d)

@@ -8,13 +8,13 @@ use lib.IntN.{+ℤ-idr}
 use lib.ListN.{length-map}
 use Rattle.theory.specs.Basics.{false, true, List, [], _∷_, replicate, length, ℕ, zero, suc, _+_, sum}
 use Rattle.theory.specs.Basics.{ℤ, pos, _+ℤ_, natAbs}
-use Rattle.theory.specs.Basics.Laws.{Each, each-append, each-map, each-same}
-use Rattle.theory.specs.Basics.Keep.{each-both}
+use Rattle.theory.specs.Basics.Laws.{Each, each-append, each-map, each-same, each-both}
 use Rattle.theory.specs.Partition.{degree}
 use Rattle.theory.specs.Partition.Laws.{NoZero, none, some, no-degree}
 use Rattle.theory.specs.Digits.{Digits, digits, width}
 use Rattle.theory.specs.ShapeWord.{rows, pairs, shapeOf}
 use Rattle.theory.specs.ShapeWord.Laws.{rows-partition, degree-pairs}
+use Rattle.theory.specs.ClassWord.Identity.{ones-degree}
 use Rattle.theory.specs.Character.{character, _on_, characterDegree}
 use Rattle.theory.specs.Hooks.{Hook, led, hookOver, hooks, shifted, signed}
 use Rattle.theory.specs.Hooks.Laws.{Exchange, exchanges, exchange-degree}
@@ -96,11 +96,7 @@ pub degree-positive : (w : ℕ) → Positive (characterDegree (shapeOf w))
 unfolding AllPositive
 degree-positive w = all-positive (degree (shapeOf w)) (digits width w) refl
 
-degree-ones : (n : ℕ) → degree (replicate n 1) ≡ n
-degree-ones zero = refl
-degree-ones (suc n) = omega (arith, degree-ones n)
-
 pub degree-bounded : (w : ℕ) → natAbs (characterDegree (shapeOf w)) ≤ factorial (degree (shapeOf w))
 degree-bounded w =
     let n : ℕ = degree (shapeOf w) in
-    rw (degree-ones n) at (word-bounded w (replicate n 1) (all-ones n) (sym (degree-ones n)))
+    rw (ones-degree n) at (word-bounded w (replicate n 1) (all-ones n) (sym (ones-degree n)))

@@ -38,5 +38,6 @@ pub ones-word : (n : ℕ) → n ≤ width → (2 ^ n - 1) * 2 ^ (31 - n) % 2 ^ 3
 ones-word n l =
     let e : n + (31 - n) ≡ 31 = omega arith in
     let w = rw e at (ones-front n (31 - n)) in
-    let all : (2 ^ n - 1) * 2 ^ (31 - n) ≡ classWord (replicate n 1) = sym (high-ones n (31 - n)) ∙ rw e (omega arith) in
+    let all : (2 ^ n - 1) * 2 ^ (31 - n) ≡ classWord (replicate n 1) =
+    sym (high-ones n (31 - n)) ∙ rw e (omega arith) in
     rw all (mod-eq-of-lt (omega (arith, word-below width (classDigits (replicate n 1)))))

@@ -114,6 +114,3 @@ fill (suc n) (some {d = d} {ds = ds} h u) l =
 
 pub last-filled : (n : ℕ) (ds : Digits) → length (upToLastOne ds) ≤ n → upToLastOne (filled n ds) ≡ upToLastOne ds
 last-filled n ds l = up-to (fill n (last ds) l)
-
-pub ones-filled : (n : ℕ) (ds : Digits) → length (upToLastOne ds) ≤ n → ones (filled n ds) ≡ ones ds
-ones-filled n ds l = sym (ones-last (fill n (last ds) l)) ∙ ones-last (last ds)

@@ -62,9 +62,6 @@ length-built {p} {n} b = ap length (built-once b (built p n))
 pub most-zero : (p : ℕ) → most p 0 ≡ [] ∷ []
 most-zero p = built-once (built p 0) done
 
-pub most-stuck : (n : ℕ) → most 0 (suc n) ≡ []
-most-stuck n = built-once (built 0 (suc n)) stuck
-
 module _ (p n : ℕ) where
   pub most-too-large : n < p → most (suc p) (suc n) ≡ most p (suc n)
   most-too-large h = built-once (built (suc p) (suc n)) (too-large h (built p (suc n)))
@@ -81,9 +78,6 @@ module _ (p n : ℕ) where
 
 pub count-zero : (p : ℕ) → countMost p 0 ≡ 1
 count-zero p = ap length (most-zero p)
-
-pub count-stuck : (n : ℕ) → countMost 0 (suc n) ≡ 0
-count-stuck n = ap length (most-stuck n)
 
 count-rises : (p n : ℕ) → countMost p n ≤ countMost (suc p) n
 count-rises p zero = omega (arith, count-zero p, count-zero (suc p))

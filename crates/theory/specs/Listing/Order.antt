@@ -5,7 +5,7 @@ use mathlib.Core.Path.{_≡_, refl}
 use Prim.Native.Nat.{_≤_, _<_}
 use native.Mathlib.Omega.{arith}
 use lib.Pow.{pow-mono}
-use Rattle.theory.specs.Basics.{true, List, [], _∷_, _++_, map, ℕ, zero, suc, _+_, _-_, _^_, length, getD}
+use Rattle.theory.specs.Basics.{true, List, [], _∷_, _++_, map, ℕ, zero, suc, _-_, _^_, length, getD}
 use Rattle.theory.specs.Basics.Laws.{Each, each-append, each-same, each-map}
 use Rattle.theory.specs.Basics.Places.{each-at}
 use Rattle.theory.specs.Partition.{Parts, first, isPartition, degree}

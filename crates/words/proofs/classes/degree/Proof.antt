@@ -2,11 +2,10 @@
 use mathlib.Core.Path.{ap, _∙_}
 use borrow.Author.Needs.{needs}
 use Rattle.theory.specs.Basics.{ℕ, pos}
-use Rattle.theory.specs.Partition.{degree}
 use Rattle.theory.specs.ClassWord.{classOf}
 use Rattle.theory.specs.Refusals.{degreeLimit, classRows}
 use Rattle.words.specs.Calls.{classDegree}
-use Rattle.words.proofs.Answers.{refused-is, passed, number-refused, number-given}
+use Rattle.words.proofs.Answers.{passed, number-handed, number-given}
 use Rattle.words.proofs.classes.degree.Statement.{statement}
 use Rattle.words.proofs.classes.degree.Tie as tie
 
@@ -20,10 +19,8 @@ returns : tie.Need-returns
 unfolding classDegree
 returns c =
     let a = c .before .before .before in
-    let w : ℕ = a .before .args .word in
-    c .refused .ensures
-    ∙ number-refused (classRows degreeLimit w) _ _ (refused-is _ _ _ (a .read .ensures))
-    (c .before .if1 .taken)
+    number-handed (classRows degreeLimit (a .before .args .word)) _ _ _ (a .read .ensures) (c .before .if1 .taken)
+    (c .refused .ensures)
 
 cast-given : tie.Need-cast-given
 cast-given c = search needs

@@ -5,11 +5,10 @@ use borrow.Author.Needs.{needs}
 use Rattle.theory.specs.Basics.{ℕ}
 use Rattle.theory.specs.Partition.{Parts}
 use Rattle.theory.specs.ClassWord.{classOf}
-use Rattle.theory.specs.ClassWord.Laws.{good-below}
 use Rattle.theory.specs.Refusals.{degreeLimit, classRows}
-use Rattle.theory.specs.Refusals.Laws.{within-class}
 use Rattle.words.specs.Calls.{classPartsInto}
-use Rattle.words.proofs.Answers.{Passed, refused-is, passed, column-refused, column-short, column-filled}
+use Rattle.words.proofs.Answers.{PassedClass, passed-class, refused-is}
+use Rattle.words.proofs.Answers.{column-refused, column-short, column-filled}
 use Rattle.words.proofs.classes.parts.Statement.{statement}
 use Rattle.words.proofs.classes.parts.Tie as tie
 
@@ -19,11 +18,8 @@ w c = c .before .before .args .word
 abbrev column : tie.After-read → Parts
 column c = c .before .before .args .column .now
 
-abbrev Found : tie.After-read → Type 0
-Found c = Passed (classRows degreeLimit (w c)) (classOf (w c)) (c .read .result)
-
-found : (c : tie.Else1) → Found (c .before .before)
-found c = passed _ _ _ (c .before .before .read .ensures) (c .if1 .left)
+passes : (c : tie.Else1) → let a = c .before .before in PassedClass (w a) (a .read .result)
+passes c = passed-class _ _ (omega arith) (c .before .before .read .ensures) (c .if1 .left)
 
 read-requires : tie.Need-read-requires
 read-requires c κs = search needs
@@ -43,16 +39,13 @@ unfolding classPartsInto
 returns-2 c =
     let e = c .before .before in
     let a = e .before .before in
-    let p = found e in
+    let p = passes e .found in
     column-short (classRows degreeLimit (w a)) (classOf (w a)) (column a) refl (p .none) (omega arith)
 
 put-requires : tie.Need-put-requires
 put-requires c κs =
-    let e = c .before .before .before in
-    let a = e .before .before in
-    let p = found e in
-    let g = within-class degreeLimit (w a) (p .none) .good in
-    (good-below (record { below = omega arith; accepted = g }), omega arith)
+    let p = passes (c .before .before .before) in
+    (p .below, omega arith)
 
 same-length : tie.Need-same-length
 same-length c = search needs
@@ -62,7 +55,7 @@ unfolding classPartsInto
 returns-3 c =
     let e = c .before .before .before .before .before .before in
     let a = e .before .before in
-    let p = found e in
+    let p = passes e .found in
     column-filled (classRows degreeLimit (w a)) (classOf (w a)) (column a) refl (p .none) _ _ (omega arith) (p .count)
     (c .before .before .put .ensures)
 

@@ -8,7 +8,7 @@ use Rattle.theory.specs.ClassWord.{classOf}
 use Rattle.theory.specs.ClassData.Laws.{period-room}
 use Rattle.theory.specs.Refusals.{degreeLimit, classRows}
 use Rattle.words.specs.Calls.{periodOfClass}
-use Rattle.words.proofs.Answers.{PassedClass, refused-is, passed-class, number-refused, number-given}
+use Rattle.words.proofs.Answers.{PassedClass, passed-class, number-handed, number-given}
 use Rattle.words.proofs.Factorials.{factorial-fits}
 use Rattle.words.proofs.classes.period.Statement.{statement}
 use Rattle.words.proofs.classes.period.Tie as tie
@@ -23,12 +23,8 @@ returns : tie.Need-returns
 unfolding periodOfClass
 returns c =
     let a = c .before .before .before in
-    let w : ℕ = a .before .args .word in
-    c .refused .ensures
-    ∙ number-refused (classRows degreeLimit w) _ _ (refused-is _ _ _ (a .read .ensures)) (c .before .if1 .taken)
-
-abbrev class : tie.Else1 → Parts
-class c = classOf (c .before .before .before .args .word)
+    number-handed (classRows degreeLimit (a .before .args .word)) _ _ _ (a .read .ensures) (c .before .if1 .taken)
+    (c .refused .ensures)
 
 passes : (c : tie.Else1) → PassedClass (c .before .before .before .args .word) (c .before .before .read .result)
 passes c = passed-class _ _ (omega arith) (c .before .before .read .ensures) (c .if1 .left)
@@ -41,7 +37,7 @@ product-of-different-requires c κs =
 given-requires : tie.Need-given-requires
 given-requires c κs =
     let p = passes (c .before) in
-    let ps : Parts = class (c .before) in
+    let ps : Parts = classOf (c .before .before .before .before .args .word) in
     let room = period-room ps (p .partition) in
     omega (arith, c .product-of-different .ensures, factorial-fits (degree ps) (p .small))
 

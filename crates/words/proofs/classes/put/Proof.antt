@@ -1,24 +1,18 @@
--- `words::classes::put` meets its contract. What the rest of the word has still to write makes of the column what the
--- whole word makes of it.
-use native.Mathlib.Nat.{zero-add}
-use native.Mathlib.Numerals.{add-one}
+-- `words::classes::put` meets its contract. The parts of the digits left are those that are not put yet.
 use native.Mathlib.Omega.{arith}
-use mathlib.Core.Path.{_≡_, sym, ap, _∙_}
+use mathlib.Core.Path.{ap}
 use Prim.Native.Nat.{_<_, _≤_}
 use borrow.Author.Needs.{needs}
-use lib.ListN.{length-set}
-use lib.Seq.{sets, sets-eq}
-use Rattle.theory.specs.Basics.{_+_, _-_, _^_, length}
+use Rattle.theory.specs.Basics.{_-_, _^_, length}
 use Rattle.theory.specs.ClassWord.{classOf}
+use Rattle.words.proofs.Columns.{Putting, put-start, put-next, put-all}
 use Rattle.words.proofs.ClassLoops.{partsLeft, Turn, turn, no-parts-left}
 use Rattle.words.proofs.classes.put.Statement.{statement}
 use Rattle.words.proofs.classes.put.Tie as tie
 
 abbrev Inv-loop : tie.InvT-loop
 Inv-loop word column₀ rest₀ at₀ i₀ column rest at i =
-    (at ≤ 31) × (rest < 2 ^ (31 - at)) × (length column ≡ length column₀)
-    × (i + length (partsLeft at rest) ≤ length column)
-    × (sets column i (partsLeft at rest) ≡ sets column₀ 0 (classOf word))
+    (at ≤ 31) × (rest < 2 ^ (31 - at)) × Putting (classOf word) column₀ column i (partsLeft at rest)
 
 abbrev μ-loop : tie.MeasureT-loop
 μ-loop word column₀ rest₀ at₀ i₀ column rest at i = rest
@@ -27,7 +21,7 @@ step : (c : tie.In-loop Inv-loop μ-loop) → Turn (c .before .loop .at) (c .bef
 step c = turn _ _ (c .loop-test .taken) (c .before .loop .inv .1)
 
 loop-holds : tie.Need-loop-holds Inv-loop μ-loop
-loop-holds c = search needs
+loop-holds c = (omega arith, c .pre .0, put-start _ _ (c .pre .1))
 
 sub-column : tie.Need-sub-column Inv-loop μ-loop
 sub-column c = omega (arith, step c)
@@ -56,23 +50,15 @@ loop-less c = omega (arith, step c)
 loop-again : tie.Need-loop-again Inv-loop μ-loop
 loop-again c =
     let s = step c in
-    let v = c .before .loop .inv in (
-      s .within,
-      s .left,
-      simp length-set (v .2),
-      simp length-set (omega (arith, ap length (s .reads))),
-      rw add-one (sym (ap (sets (c .before .loop .column) (c .before .loop .i)) (s .reads)) ∙ v .4),
-    )
+    (s .within, s .left, put-next _ _ (c .before .loop .inv .2) (s .reads))
 
 same-length : tie.Need-same-length Inv-loop μ-loop
 same-length c = search needs
 
 returns : tie.Need-returns Inv-loop μ-loop
 returns c =
-    let a = c .before .before .args in
     let l = c .before .loop in
-    sym (ap (sets (l .column) (l .i)) (no-parts-left (l .at) (l .rest) (c .loop-test .left))) ∙ l .inv .4
-    ∙ sets-eq (classOf (a .word)) (a .column .now) 0 (rw zero-add (c .before .before .pre .1)) ∙ rw zero-add
+    put-all _ _ (c .before .before .pre .1) (l .inv .2) (no-parts-left (l .at) (l .rest) (c .loop-test .left))
 
 pub put-spec : {M : Type 1} → statement M
 put-spec =

@@ -11,7 +11,7 @@ use Rattle.theory.specs.ClassData.{classSign}
 use Rattle.theory.specs.ClassData.Laws.{sign-by-degree}
 use Rattle.theory.specs.Refusals.{degreeLimit, classRows}
 use Rattle.words.specs.Calls.{signOfClass}
-use Rattle.words.proofs.Answers.{PassedClass, refused-is, passed-class, number-refused, number-given}
+use Rattle.words.proofs.Answers.{PassedClass, passed-class, number-handed, number-given}
 use Rattle.words.proofs.classes.sign.Statement.{statement}
 use Rattle.words.proofs.classes.sign.Tie as tie
 
@@ -25,9 +25,8 @@ returns : tie.Need-returns
 unfolding signOfClass
 returns c =
     let a = c .before .before .before in
-    let w : ℕ = a .before .args .word in
-    c .refused .ensures
-    ∙ number-refused (classRows degreeLimit w) _ _ (refused-is _ _ _ (a .read .ensures)) (c .before .if1 .taken)
+    number-handed (classRows degreeLimit (a .before .args .word)) _ _ _ (a .read .ensures) (c .before .if1 .taken)
+    (c .refused .ensures)
 
 abbrev class : tie.Else1 → Parts
 class c = classOf (c .before .before .before .args .word)

@@ -5,14 +5,13 @@ use mathlib.Core.Path.{ap, ap₂, _∙_}
 use Prim.Native.Nat.{_≤_}
 use borrow.Author.Needs.{needs}
 use Rattle.theory.specs.Basics.{ℕ, pos, _/_, getD}
-use Rattle.theory.specs.Partition.{Parts}
 use Rattle.theory.specs.ClassWord.{classOf}
 use Rattle.theory.specs.ClassData.{classSize}
 use Rattle.theory.specs.ClassData.Laws.{divisor-positive}
 use Rattle.theory.specs.Bounds.{factorial}
 use Rattle.theory.specs.Refusals.{degreeLimit, classRows}
 use Rattle.words.specs.Calls.{sizeOfClass}
-use Rattle.words.proofs.Answers.{PassedClass, refused-is, passed-class, number-refused, number-given}
+use Rattle.words.proofs.Answers.{PassedClass, passed-class, number-handed, number-given}
 use Rattle.words.proofs.Factorials.{factorials, factorial-at, factorial-fits}
 use Rattle.words.proofs.classes.size.Statement.{statement}
 use Rattle.words.proofs.classes.size.Tie as tie
@@ -27,12 +26,8 @@ returns : tie.Need-returns
 unfolding sizeOfClass
 returns c =
     let a = c .before .before .before in
-    let w : ℕ = a .before .args .word in
-    c .refused .ensures
-    ∙ number-refused (classRows degreeLimit w) _ _ (refused-is _ _ _ (a .read .ensures)) (c .before .if1 .taken)
-
-abbrev class : tie.Else1 → Parts
-class c = classOf (c .before .before .before .args .word)
+    number-handed (classRows degreeLimit (a .before .args .word)) _ _ _ (a .read .ensures) (c .before .if1 .taken)
+    (c .refused .ensures)
 
 passes : (c : tie.Else1) → PassedClass (c .before .before .before .args .word) (c .before .before .read .result)
 passes c = passed-class _ _ (omega arith) (c .before .before .read .ensures) (c .if1 .left)
@@ -54,7 +49,8 @@ divisor-requires c κs =
 div-given : tie.Need-div-given
 div-given c =
     let e = c .before .before in
-    omega (arith, c .divisor .ensures, divisor-positive (class e) (passes e .partition))
+    let w : ℕ = e .before .before .before .args .word in
+    omega (arith, c .divisor .ensures, divisor-positive (classOf w) (passes e .partition))
 
 given-requires : tie.Need-given-requires
 given-requires c κs =

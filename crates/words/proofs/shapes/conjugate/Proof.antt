@@ -1,13 +1,9 @@
 -- `words::shapes::conjugate` meets its contract: a word that the reader passes is flipped.
-use native.Mathlib.Omega.{arith}
 use borrow.Author.Needs.{needs}
-use borrow.Author.Tests.{ltb-true}
-use Rattle.theory.specs.Basics.{_^_}
 use Rattle.theory.specs.ShapeWord.{shapeOf, conjugateWord}
 use Rattle.theory.specs.Refusals.{degreeLimit, shapeRows}
-use Rattle.theory.specs.Refusals.Laws.{within}
 use Rattle.words.specs.Calls.{conjugateShape}
-use Rattle.words.proofs.Answers.{Passed, passed, refused-is, word-refused, word-given}
+use Rattle.words.proofs.Answers.{Passed, passed, shape-below, refused-is, word-refused, word-given}
 use Rattle.words.proofs.shapes.conjugate.Statement.{statement}
 use Rattle.words.proofs.shapes.conjugate.Tie as tie
 
@@ -28,9 +24,7 @@ returns c =
     word-refused (shapeRows degreeLimit w) (conjugateWord w) _ e (c .if1 .taken)
 
 flipped-requires : tie.Need-flipped-requires
-flipped-requires c κs =
-    let w = c .before .before .before .args .word in
-    omega (arith, ltb-true w (2 ^ 30) (within degreeLimit w (pass c .none) .good))
+flipped-requires c κs = shape-below _ (pass c .none)
 
 returns-2 : tie.Need-returns-2
 unfolding conjugateShape

@@ -6,7 +6,7 @@ use Rattle.theory.specs.Partition.{degree}
 use Rattle.theory.specs.ShapeWord.{shapeOf}
 use Rattle.theory.specs.Refusals.{degreeLimit, shapeRows}
 use Rattle.words.specs.Calls.{shapeDegree}
-use Rattle.words.proofs.Answers.{Passed, passed, refused-is, number-refused, number-given}
+use Rattle.words.proofs.Answers.{Passed, passed, number-handed, number-given}
 use Rattle.words.proofs.shapes.degree.Statement.{statement}
 use Rattle.words.proofs.shapes.degree.Tie as tie
 
@@ -25,10 +25,8 @@ returns : tie.Need-returns
 unfolding shapeDegree
 returns c =
     let a = c .before .before .before in
-    let w = a .before .args .word in
-    let e = refused-is (shapeRows degreeLimit w) (shapeOf w) (a .read .result) (a .read .ensures) in
-    c .refused .ensures
-    ∙ number-refused (shapeRows degreeLimit w) (pos (degree (shapeOf w))) _ e (c .before .if1 .taken)
+    number-handed (shapeRows degreeLimit (a .before .args .word)) _ _ _ (a .read .ensures) (c .before .if1 .taken)
+    (c .refused .ensures)
 
 cast-given : tie.Need-cast-given
 cast-given c = search needs

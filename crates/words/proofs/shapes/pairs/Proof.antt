@@ -1,35 +1,28 @@
 -- `words::shapes::pairs` meets its contract. Leading zeros give the next one; the pairs so far, and those of the ones
 -- left with the zeros passed and with those left, are the degree.
 use native.Mathlib.Omega.{arith}
-use mathlib.Core.Path.{_≡_, ap, _∙_}
+use mathlib.Core.Path.{_≡_, ap}
 use Prim.Native.Nat.{_≤_, _<_}
-use native.Mathlib.Nat.{pos-of-ne-zero}
 use borrow.Author.Needs.{needs}
-use lib.Count.{leadingZeros}
-use Rattle.theory.specs.Basics.{ℕ, _+_, _-_, _*_, _%_, _^_}
+use Rattle.theory.specs.Basics.{_+_, _-_, _*_, _^_}
 use Rattle.theory.specs.Partition.{degree}
 use Rattle.theory.specs.Digits.{digits}
-use Rattle.theory.specs.ClassWord.{partsAfter}
-use Rattle.theory.specs.ClassWord.Laws.{parts-none}
-use Rattle.theory.specs.ClassWord.Reading.{Next, next}
 use Rattle.theory.specs.ShapeWord.{shapeOf}
 use Rattle.theory.specs.ShapeWord.Counts.{pairsAfter, degree-after}
+use Rattle.words.proofs.ClassLoops.{partsLeft, Turn, turn, no-parts-left}
 use Rattle.words.proofs.shapes.pairs.Statement.{statement}
 use Rattle.words.proofs.shapes.pairs.Tie as tie
 
 abbrev Inv-loop : tie.InvT-loop
 Inv-loop word rest₀ at₀ zeros₀ pairs₀ rest at zeros pairs =
     (at ≤ 31) × (rest < 2 ^ (31 - at)) × (zeros ≤ at) × (pairs ≤ 31 * at)
-    × (degree (shapeOf word) ≡ pairs + pairsAfter zeros (partsAfter 0 (digits (31 - at) rest)))
+    × (degree (shapeOf word) ≡ pairs + pairsAfter zeros (partsLeft at rest))
 
 abbrev μ-loop : tie.MeasureT-loop
 μ-loop word rest₀ at₀ zeros₀ pairs₀ rest at zeros pairs = rest
 
-step : (c : tie.In-loop Inv-loop μ-loop)
-    → let x = c .before .loop .rest in
-    let z = leadingZeros 32 x in
-    Next 31 (c .before .loop .at) x z (1 * 2 ^ (31 - z) % 2 ^ 32)
-step c = next 31 _ _ (pos-of-ne-zero (c .loop-test .taken)) (c .before .loop .inv .1)
+step : (c : tie.In-loop Inv-loop μ-loop) → Turn (c .before .loop .at) (c .before .loop .rest)
+step c = turn _ _ (c .loop-test .taken) (c .before .loop .inv .1)
 
 loop-holds : tie.Need-loop-holds Inv-loop μ-loop
 loop-holds c = omega (arith, degree-after (digits 31 (c .args .word)))
@@ -63,9 +56,8 @@ loop-again c = let s = step c in omega (arith, ap (pairsAfter (c .before .loop .
 
 returns : tie.Need-returns Inv-loop μ-loop
 returns c =
-    let none = parts-none 0 (31 - c .before .loop .at) in
-    let e = ap (λ (x : ℕ). partsAfter 0 (digits (31 - c .before .loop .at) x)) (c .loop-test .left) ∙ none in
-    omega (arith, ap (pairsAfter (c .before .loop .zeros)) e)
+    let l = c .before .loop in
+    omega (arith, ap (pairsAfter (l .zeros)) (no-parts-left (l .at) (l .rest) (c .loop-test .left)))
 
 pub pairs-spec : {M : Type 1} → statement M
 pairs-spec =

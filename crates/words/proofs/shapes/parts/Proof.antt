@@ -2,13 +2,11 @@
 use mathlib.Core.Path.{refl}
 use native.Mathlib.Omega.{arith}
 use borrow.Author.Needs.{needs}
-use borrow.Author.Tests.{ltb-true}
-use Rattle.theory.specs.Basics.{_^_}
 use Rattle.theory.specs.ShapeWord.{shapeOf}
 use Rattle.theory.specs.Refusals.{degreeLimit, shapeRows}
-use Rattle.theory.specs.Refusals.Laws.{within}
 use Rattle.words.specs.Calls.{shapePartsInto}
-use Rattle.words.proofs.Answers.{Passed, passed, refused-is, column-refused, column-short, column-filled}
+use Rattle.words.proofs.Answers.{Passed, passed, shape-below, refused-is}
+use Rattle.words.proofs.Answers.{column-refused, column-short, column-filled}
 use Rattle.words.proofs.shapes.parts.Statement.{statement}
 use Rattle.words.proofs.shapes.parts.Tie as tie
 
@@ -42,8 +40,7 @@ returns-2 c =
 put-requires : tie.Need-put-requires
 put-requires c κs =
     let p = pass (c .before .before .before) in
-    let w = c .before .before .before .before .before .before .before .args .word in
-    (omega (arith, ltb-true w (2 ^ 30) (within degreeLimit w (p .none) .good)), omega arith)
+    (shape-below _ (p .none), omega arith)
 
 same-length : tie.Need-same-length
 same-length c = search needs

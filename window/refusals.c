@@ -1,0 +1,38 @@
+/* refusals.c: the refusals in words. */
+#include <inttypes.h>
+#include <stdio.h>
+
+#include "refusals.h"
+#include "zembrusha.h"
+
+/* The words of each refusal number. */
+static const char *const REFUSALS[] = {
+    [ZEMBRUSHA_GIVEN] = "not refused",
+    [ZEMBRUSHA_BAD_SHAPE] = "the shape word is 2^30 or more",
+    [ZEMBRUSHA_SHAPE_TOO_LARGE] = "the shape's degree is above 16",
+    [ZEMBRUSHA_BAD_CLASS] = "no partition: a part is 0 or above the one before it, or bit 31 of the class word is set",
+    [ZEMBRUSHA_CLASS_TOO_LARGE] = "the class's degree is above 16",
+    [ZEMBRUSHA_DEGREES_DIFFER] = "the degrees of shape and class differ",
+    [ZEMBRUSHA_PAGE_TOO_LONG] = "the page is longer than 4096 words",
+    [ZEMBRUSHA_NOT_SOUND] = "slip and page are not sound",
+    [ZEMBRUSHA_NO_SUCH_LINE] = "no such line",
+    [ZEMBRUSHA_NO_SUCH_CYCLE] = "the line's class has no such cycle",
+    [ZEMBRUSHA_PAGE_FULL] = "the page has no room for so many lines",
+    [ZEMBRUSHA_NO_SUCH_RANK] = "the rank is not in the list",
+    [ZEMBRUSHA_DEGREE_TOO_LARGE] = "the table's degree is above 16",
+    [ZEMBRUSHA_BAD_INPUT] = "the input is not of its form",
+    [ZEMBRUSHA_COLUMN_TOO_SHORT] = "the column is too short",
+    [ZEMBRUSHA_NO_SUCH_KIND] = "no such kind of watch",
+};
+
+/* The number of the refusal, and its words. */
+void refuse(uint32_t refused)
+{
+    printf("refused %" PRIu32 ": %s\n", refused, REFUSALS[refused]);
+}
+
+/* Refuses input that is not of its form, and says what form it should have. */
+void refuse_input(const char *form)
+{
+    printf("refused %d: %s (%s)\n", ZEMBRUSHA_BAD_INPUT, REFUSALS[ZEMBRUSHA_BAD_INPUT], form);
+}

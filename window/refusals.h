@@ -1,0 +1,13 @@
+/* refusals.h: what the window says where something is refused. */
+#ifndef REFUSALS_H
+#define REFUSALS_H
+
+#include <stdint.h>
+
+/* Says that something is refused, by the number of zembrusha.h and in words. */
+void refuse(uint32_t refused);
+
+/* Refuses input that is not of its form, and says what form it should have. */
+void refuse_input(const char *form);
+
+#endif

@@ -1,0 +1,127 @@
+/* session.c: a session of the library, opened for a shape and a class, struck, watched and shown. */
+#include <inttypes.h>
+#include <stdio.h>
+
+#include "partitions.h"
+#include "refusals.h"
+#include "session.h"
+
+/* What a watch of a whole number shows. */
+static int64_t watch(const struct session *session, enum zembrusha_kind kind, uint64_t line)
+{
+    return zembrusha_watch_whole(session->slip, session->page, ZEMBRUSHA_PAGE_LIMIT, kind, line);
+}
+
+/* Settled plus the sum of all signed waiting characters. */
+static int64_t settled_plus_waiting(const struct session *session)
+{
+    return watch(session, ZEMBRUSHA_SETTLED, 0) + watch(session, ZEMBRUSHA_WAITING, 0);
+}
+
+/* Keeps what the library hands back, and settled plus waiting, which no strike may change. */
+void open_session(struct session *session, uint32_t shape, uint32_t class)
+{
+    struct zembrusha_handed handed = zembrusha_open(shape, class, session->page, ZEMBRUSHA_PAGE_LIMIT);
+    if (handed.refused != 0) {
+        refuse(handed.refused);
+        return;
+    }
+    session->opened = true;
+    session->slip = handed.slip;
+    session->sum = settled_plus_waiting(session);
+}
+
+/* Keeps what the library hands back: where it refuses, the slip that was given. */
+void strike_cycle(struct session *session, uint64_t line, uint64_t cycle)
+{
+    struct zembrusha_handed handed = zembrusha_step(session->slip, session->page, ZEMBRUSHA_PAGE_LIMIT, line, cycle);
+    if (handed.refused != 0) {
+        refuse(handed.refused);
+    }
+    session->slip = handed.slip;
+}
+
+/* The bound on the steps of an opening of degree n: S(0) = 0 and S(d) = 1 + d S(d-1). */
+static int64_t most_steps(int64_t n)
+{
+    int64_t bound = 0;
+    for (int64_t d = 1; d <= n; d++) {
+        bound = 1 + d * bound;
+    }
+    return bound;
+}
+
+/* The cycles that may be struck: each length of the class once. */
+static void show_cycles(const struct partition *cycles)
+{
+    printf("strike");
+    for (size_t i = 0; i < cycles->count; i++) {
+        if (i == 0 || cycles->parts[i] != cycles->parts[i - 1]) {
+            printf("%s %u", i == 0 ? "" : " or", cycles->parts[i]);
+        }
+    }
+}
+
+/* A waiting line: number, sign, shape, class, cycles; where it is watched, its signed character and its ratio. */
+static void show_line(const struct session *session, uint64_t line, bool watched)
+{
+    uint64_t word = session->page[line];
+    char sign = word >> 63 == 1 ? '-' : '+';
+    struct shown shape = shape_text((uint32_t)(word >> 32) & 0x7FFFFFFF);
+    struct partition cycles = class_partition((uint32_t)word);
+    printf("line %" PRIu64 ": %c %s on %s, ", line, sign, shape.text, partition_text(&cycles).text);
+    show_cycles(&cycles);
+    if (watched) {
+        double ratio =
+            zembrusha_watch_ratio(session->slip, session->page, ZEMBRUSHA_PAGE_LIMIT, ZEMBRUSHA_LINE_RATIO, line);
+        printf(", signed character %" PRId64 ", ratio %g", watch(session, ZEMBRUSHA_LINE_CHARACTER, line), ratio);
+    }
+    printf("\n");
+}
+
+/* The sum of the waiting lines, and whether settled plus waiting is what it was at the opening. */
+static void show_sums(const struct session *session)
+{
+    int64_t sum = settled_plus_waiting(session);
+    printf("sum of the waiting lines: %" PRId64 "\n", watch(session, ZEMBRUSHA_WAITING, 0));
+    printf("settled plus waiting: %" PRId64 ", ", sum);
+    if (sum == session->sum) {
+        printf("unchanged since the opening\n");
+    } else {
+        printf("CHANGED from %" PRId64 " at the opening\n", session->sum);
+    }
+}
+
+/* Whether the session may be watched; where it is refused, it says so. */
+static bool may_watch(const struct session *session)
+{
+    uint32_t refused =
+        zembrusha_watch_refusal(session->slip, session->page, ZEMBRUSHA_PAGE_LIMIT, ZEMBRUSHA_WAITING, 0);
+    if (refused != 0) {
+        refuse(refused);
+    }
+    return refused == 0;
+}
+
+/* How the session stands, with signed characters, ratios and sums where they are wanted. */
+void show_session(const struct session *session, bool wanted)
+{
+    if (!session->opened) {
+        printf("nothing is open\n");
+        return;
+    }
+    bool watched = wanted && may_watch(session);
+    const struct zembrusha_slip *slip = &session->slip;
+    int64_t bound = most_steps(zembrusha_degree(slip->shape));
+    printf("%s on %s: ", shape_text(slip->shape).text, class_text(slip->class_word).text);
+    printf("settled %" PRId64 ", steps %" PRId64 " of at most %" PRId64 "\n", slip->settled, slip->steps, bound);
+    for (uint64_t line = 0; line < slip->lines; line++) {
+        show_line(session, line, watched);
+    }
+    if (slip->lines == 0) {
+        printf("no line waits: the character is %" PRId64 "\n", slip->settled);
+    }
+    if (watched) {
+        show_sums(session);
+    }
+}

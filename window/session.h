@@ -1,0 +1,27 @@
+/* session.h: a session of the library, opened for a shape and a class, struck, watched and shown. */
+#ifndef SESSION_H
+#define SESSION_H
+
+#include <stdbool.h>
+#include <stdint.h>
+
+#include "zembrusha.h"
+
+/* The session: whether one was opened, what the library handed back last, and settled plus waiting at the opening. */
+struct session {
+    bool opened;
+    struct zembrusha_slip slip;
+    int64_t sum;
+    uint64_t page[ZEMBRUSHA_PAGE_LIMIT];
+};
+
+/* Opens a session for a shape and a class. Where it is refused, it says so, and the session stays as it was. */
+void open_session(struct session *session, uint32_t shape, uint32_t class);
+
+/* Strikes a cycle from a waiting line. Where it is refused, it says so, and the session stays as it was. */
+void strike_cycle(struct session *session, uint64_t line, uint64_t cycle);
+
+/* Shows how the session stands, with signed characters, ratios and sums where they are wanted. */
+void show_session(const struct session *session, bool wanted);
+
+#endif

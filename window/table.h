@@ -1,0 +1,10 @@
+/* table.h: the character table. */
+#ifndef TABLE_H
+#define TABLE_H
+
+#include <stdint.h>
+
+/* Shows the character table of a degree of at most 16: a row to a class, with its size, and a column to a shape. */
+void show_table(uint64_t degree);
+
+#endif

@@ -3,7 +3,8 @@
 
 In READING.md `X: `a` `b`` says that the file X.antt has a and b, X being below crates/theory/specs or beginning with a
 crate's name; in all three, `crate::path::function` is a function of that crate, and a name with underscores that is no
-function is a must-fail edit; in READING.md the lines of a file that has to be believed are its lines. Prints what is not there; the exit status is 0 only where nothing is lacking."""
+function is a must-fail edit; in READING.md a number of lines beside a file is that file's. Prints what is not so; the
+exit status is 0 only where nothing is lacking."""
 import glob
 import os
 import re
@@ -28,7 +29,8 @@ def defined(name, text):
 
 
 def cited(document, text):
-    for file, names in re.findall(r'((?:[A-Z]|[a-z]+/specs/|[a-z]+/proofs/)[A-Za-z0-9/]*): ((?:`[^`]+`(?: \([^)]*\))?(?:,| \.\.)? ?)+)', text):
+    file_name = r'((?:[A-Z]|[a-z]+/specs/|[a-z]+/proofs/)[A-Za-z0-9/]*)'
+    for file, names in re.findall(file_name + r': ((?:`[^`]+`(?: \([^)]*\))?(?:,| \.\.)? ?)+)', text):
         place = file if file.split('/')[0] in crates else 'theory/specs/' + file
         path = 'crates/%s.antt' % place
         if not os.path.exists(path):
@@ -51,7 +53,8 @@ for document in ('READING', 'PROMISES', 'ARCHITECTURE'):
         elif '_' in name and '::' not in name and name not in plain | edits | set(crates):
             lacking.append('%s: neither function nor edit: %s' % (document, name))
 
-for file, lines in re.findall(r'`(crates/[^`]+\.antt)` \| [^|]+ \| (\d+) \|', open('docs/READING.md', encoding='utf8').read()):
+reading = open('docs/READING.md', encoding='utf8').read()
+for file, lines in re.findall(r'`(crates/[^`]+\.antt)` \| [^|]+ \| (\d+) \|', reading):
     if not os.path.exists(file) or len(open(file, encoding='utf8').readlines()) != int(lines):
         lacking.append('READING: %s has not %s lines' % (file, lines))
 

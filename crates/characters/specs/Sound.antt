@@ -1,7 +1,7 @@
 -- Sound slip and page (document 01, "Sound slip and page"). A page is a list of 64-bit words.
 --   waiting slip page       the words of the page that are lines
 --   soundLine n x           a good shape word and a good class word of one degree, 1 to n
---   sound limit slip page   the clauses of document 01, in its order
+--   sound limit slip page   the clauses of document 01, in its order; nonNeg z: the whole number z is not negative
 use lib.Signed.{nonNeg}
 use Rattle.theory.specs.Basics.{Bool, _&&_, List, map, length, take, drop, ℕ, _+_, natAbs, _=?_, _≤?_, every, total}
 use Rattle.theory.specs.Partition.{degree}

@@ -22,13 +22,13 @@ Row = Bool × ℕ
 
 -- ---- the table
 abbrev pub no-1 : ℕ → Row
-no-1 shape = (not (goodShape shape), 1)
+no-1 w = (not (goodShape w), 1)
 
 abbrev pub no-2 : ℕ → Parts → Row
 no-2 limit shape = (limit <? degree shape, 2)
 
 abbrev pub no-3 : ℕ → Row
-no-3 class = (not (goodClass class), 3)
+no-3 w = (not (goodClass w), 3)
 
 abbrev pub no-3-list : Parts → Row
 no-3-list ps = (not (isPartition ps), 3)

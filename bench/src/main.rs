@@ -55,7 +55,8 @@ fn best(runs: u32, mut work: impl FnMut()) -> f64 {
 // What a peer prints: lines of words, kept by the words in front of the numbers.
 fn peer(command: &str, arguments: &[&str]) -> Vec<Vec<String>> {
     let out = Command::new(command).args(arguments).output().expect(command);
-    String::from_utf8_lossy(&out.stdout).lines().map(|line| line.split_whitespace().map(String::from).collect()).collect()
+    let text = String::from_utf8_lossy(&out.stdout);
+    text.lines().map(|line| line.split_whitespace().map(String::from).collect()).collect()
 }
 
 fn found(lines: &[Vec<String>], front: &[&str], at: usize) -> f64 {

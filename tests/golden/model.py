@@ -1,6 +1,7 @@
 #!/usr/bin/env python3
 # model.py DEGREE: what chartable has to write, from permutation characters and orthogonality alone: no hooks, and
-# nothing of the rules of 1954. Made the files degree-N.txt: for n in 0 1 2 3 4 5 6; do ./model.py $n > degree-$n.txt; done
+# nothing of the rules of 1954. Made the files degree-N.txt:
+#     for n in 0 1 2 3 4 5 6; do ./model.py $n > degree-$n.txt; done
 import sys
 from collections import Counter
 from functools import lru_cache
@@ -44,5 +45,6 @@ n = int(sys.argv[1])
 ps, characters = table(n)
 print(f"degree={n}\ncount={len(ps)}")
 for j, c in enumerate(ps):
-    print("class=" + ",".join(map(str, c)), f"size={size(c)}", "values=" + ",".join(str(v[j]) for v in characters), sep="\n")
+    values = ",".join(str(v[j]) for v in characters)
+    print("class=" + ",".join(map(str, c)), f"size={size(c)}", "values=" + values, sep="\n")
 print(f"end={len(ps)}")

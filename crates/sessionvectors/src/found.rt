@@ -1,5 +1,5 @@
-// What the random runs found: how many cases of each kind there were and how many of them were wrong, and how often each
-// number refused.
+// What the random runs found: how many cases of each kind there were and how many of them were wrong, and how often
+// each number refused.
 use super::tally::Tally;
 
 pub struct Found {

@@ -1,8 +1,9 @@
 -- The table program's text for any input text (document 01, "Table program"). A text is the list of its bytes.
---   ascii s            the bytes of a text that is written out here
---   decimal n          n in decimal, with no needless zero; integer z, with a minus in front if z is negative
+--   Text               a list of bytes; ascii s, those of a text that is written out here
+--   decimal n          n in decimal, with no needless zero, by decimalIn k, of at most k digits
+--   integer z          z in decimal, with minusSign z in front: a minus if z is negative, else nothing
 --   commas ts          texts set apart by commas
---   line name t        a name, a text and a newline; field, with a name that is written out here
+--   textLine name t    a name, a text and a newline; field, with a name that is written out here
 --   classText          the lines of a class: parts, size, values
 --   classLines class   those of a class with its number of elements and its column
 --   table n classes    the table of degree n, for the classes of a list
@@ -37,22 +38,22 @@ decimalIn (suc k) n = cond (n <? 10) [] (decimalIn k (n / 10)) ++ (48 + n % 10) 
 unfoldable pub decimal : ℕ → Text
 decimal n = decimalIn 20 n
 
-abbrev pub minus : ℤ → Text
-minus (pos n) = []
-minus (negsuc n) = ascii "-"
+abbrev pub minusSign : ℤ → Text
+minusSign (pos n) = []
+minusSign (negsuc n) = ascii "-"
 
 unfoldable pub integer : ℤ → Text
-integer z = minus z ++ decimal (natAbs z)
+integer z = minusSign z ++ decimal (natAbs z)
 
 unfoldable pub commas : List Text → Text
 commas [] = []
 commas (t ∷ ts) = t ++ joined (λ u. ascii "," ++ u) ts
 
-abbrev pub line : Text → Text → Text
-line name t = name ++ t ++ ascii "\n"
+abbrev pub textLine : Text → Text → Text
+textLine name t = name ++ t ++ ascii "\n"
 
 abbrev pub field : String → Text → Text
-field name t = line (ascii name) t
+field name t = textLine (ascii name) t
 
 unfoldable pub classText : Parts → ℕ → List ℤ → Text
 classText parts size values =

@@ -2,15 +2,15 @@
 ghost use mathlib.Core.List.{map};
 ghost use Prim.Native.Nat.{_+_, _≤_};
 ghost use Rattle.theory.specs.Basics.{length};
-ghost use Rattle.tabletext.specs.Table.{decimal, integer, commas, line, field, classText};
+ghost use Rattle.tabletext.specs.Table.{decimal, integer, commas, textLine, field, classText};
 ghost use Rattle.tabletext.specs.Writing.{Wrote};
 use super::lists;
 use super::text;
 
 // A name and a number.
 pub fn number(name: &[u8], n: u64, out: &mut [u8], at: usize) -> usize
-    requires { ⌜ at + length (line (now name) (decimal n)) ≤ length (now out) ⌝ }
-    ensures { λ r. ⌜ Wrote (line (now (name .entry)) (decimal n)) at (now (out .entry)) r (now (out .exit)) ⌝ }
+    requires { ⌜ at + length (textLine (now name) (decimal n)) ≤ length (now out) ⌝ }
+    ensures { λ r. ⌜ Wrote (textLine (now (name .entry)) (decimal n)) at (now (out .entry)) r (now (out .exit)) ⌝ }
 {
     let end = text::put(name, out, at);
     let end = text::decimal(n, out, end);

@@ -3,7 +3,7 @@
 ghost use Prim.Native.Nat.{_+_, _≤_};
 ghost use mathlib.Core.Path.{_≡_};
 ghost use Rattle.theory.specs.Basics.{length, natAbs};
-ghost use Rattle.tabletext.specs.Table.{decimal as decimalText, minus as minusText, integer as integerText};
+ghost use Rattle.tabletext.specs.Table.{decimal as decimalText, minusSign as minusText, integer as integerText};
 ghost use Rattle.tabletext.specs.Writing.{Wrote};
 
 pub fn put(text: &[u8], out: &mut [u8], at: usize) -> usize

@@ -5,7 +5,7 @@
 --   rank ps               how many stand before ps in the listing of its degree; rankIn ps list, in any list
 --   partitionCounts       how many partitions the degrees 0 to 16 have, a list of constants
 --   column class          the values of a class for all shapes of its degree, in listing order
---   wordsBelow m          the words of all shapes of the degrees below m, degree by degree, each degree in listing order
+--   wordsBelow m          the words of all shapes of degrees below m, degree by degree, each degree in listing order
 --   start n               where the words of degree n start there, for any m above n
 use Prim.Native.Nat.{_<_}
 use Rattle.theory.specs.Basics.{Bool, true, false, cond, _&&_, List, [], _∷_, _++_, map, length}

@@ -16,6 +16,7 @@ pub struct Found {
     pub shapes: Tally,
     pub classes: Tally,
     pub rises: Tally,
+    pub listed: Tally,
     pub columns: Tally,
     pub conjugates: Tally,
     pub signs: Tally,
@@ -37,6 +38,12 @@ fn meet_words(found: Found, shape: WordAnswer, class: WordAnswer, parts: &[u8], 
     f
 }
 
+// Whether the listing has a class at the place at which the walk meets it.
+fn is_listed(n: u8, number: u64, class: u32) -> bool {
+    let told = listing::class_at(n as u32, (number % 0x1_0000_0000) as u32);
+    (told.refused == 0) & (told.word == class)
+}
+
 // The checks on what its class tells.
 fn meet_class(found: Found, class: u32, parts: &[u8]) -> Found {
     let counted = class_data::count(parts);
@@ -54,7 +61,9 @@ fn meet_class(found: Found, class: u32, parts: &[u8]) -> Found {
 fn meet(found: Found, parts: &[u8], n: u8) -> Found {
     let shape = words::shapes::word(parts);
     let class = words::classes::word(parts);
-    meet_class(meet_words(found, shape, class, parts, n), class.word, parts)
+    let mut f = meet_words(found, shape, class, parts, n);
+    f.listed = f.listed.add(is_listed(n, f.number, class.word));
+    meet_class(f, class.word, parts)
 }
 
 // All partitions of n. A walk that did not end would stop after 300.
@@ -92,6 +101,7 @@ fn nothing() -> Found {
         shapes: none,
         classes: none,
         rises: none,
+        listed: none,
         columns: none,
         conjugates: none,
         signs: none,

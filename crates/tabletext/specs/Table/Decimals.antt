@@ -11,7 +11,7 @@ use lib.Signed.{ltZ}
 use Rattle.io.specs.Digits.{glyph, digits, Fewest}
 use Rattle.theory.specs.Basics.{true, false, [], _∷_, _++_, ℕ, zero, suc, _+_, _-_, _/_, _%_, _^_, length}
 use Rattle.theory.specs.Basics.{ℤ, pos, negsuc, natAbs}
-use Rattle.tabletext.specs.Table.{ascii, decimalIn, decimal, minus, integer}
+use Rattle.tabletext.specs.Table.{ascii, decimalIn, decimal, minusSign, integer}
 
 -- ---- the last digit, and those in front of it
 module _ (k n : ℕ) where
@@ -79,19 +79,19 @@ unfolding decimal
 decimal-length n k h = few-digits 20 k n h
 
 -- ---- signs
-pub minus-below : (z : ℤ) → ltZ z (pos 0) ≡ true → minus z ≡ ascii "-"
+pub minus-below : (z : ℤ) → ltZ z (pos 0) ≡ true → minusSign z ≡ ascii "-"
 minus-below (pos n) t = absurd (omega (arith, ltb-true n 0 t))
 minus-below (negsuc n) t = refl
 
-pub no-minus : (z : ℤ) → ltZ z (pos 0) ≡ false → minus z ≡ []
+pub no-minus : (z : ℤ) → ltZ z (pos 0) ≡ false → minusSign z ≡ []
 no-minus (pos n) t = refl
 no-minus (negsuc n) t = let z : _≡_ {A = ℕ} 0 1 = cc in absurd (omega arith)
 
-minus-length : (z : ℤ) → length (minus z) ≤ 1
+minus-length : (z : ℤ) → length (minusSign z) ≤ 1
 minus-length (pos n) = omega arith
 minus-length (negsuc n) = omega arith
 
 pub integer-length : (z : ℤ) (k : ℕ) → natAbs z < 10 ^ suc k → length (integer z) ≤ suc (suc k)
 unfolding integer
 integer-length z k h =
-    omega (arith, length-append (minus z) (decimal (natAbs z)), minus-length z, decimal-length (natAbs z) k h)
+    omega (arith, length-append (minusSign z) (decimal (natAbs z)), minus-length z, decimal-length (natAbs z) k h)

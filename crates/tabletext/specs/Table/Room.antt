@@ -24,7 +24,7 @@ use Rattle.theory.specs.Listing.Order.{Fits, each-listed}
 use Rattle.theory.specs.Listing.Columns.{column-length}
 use Rattle.theory.specs.Refusals.{Row, degreeLimit, firstOf, judged, no-12, no-13}
 use Rattle.theory.specs.Refusals.Laws.{none-applies}
-use Rattle.tabletext.specs.Table.{Text, ascii, decimal, integer, commas, line, field}
+use Rattle.tabletext.specs.Table.{Text, ascii, decimal, integer, commas, textLine, field}
 use Rattle.tabletext.specs.Table.{classText, classLines, table, asked, chartable}
 use Rattle.tabletext.specs.Table.Decimals.{decimal-most, integer-length}
 use Rattle.tabletext.specs.Table.Lists.{commas-length}
@@ -33,10 +33,10 @@ abbrev pub room : ℕ
 room = 1048576
 
 -- ---- lines
-line-length : (name t : Text) → length (line name t) ≡ length name + length t + 1
+line-length : (name t : Text) → length (textLine name t) ≡ length name + length t + 1
 line-length name t = length-append (name ++ t) (10 ∷ []) ∙ rw length-append refl
 
-number-line : (name : Text) (n : ℕ) → length (line name (decimal n)) ≤ length name + 21
+number-line : (name : Text) (n : ℕ) → length (textLine name (decimal n)) ≤ length name + 21
 number-line name n = omega (arith, line-length name (decimal n), decimal-most n)
 
 -- ---- a class

@@ -42,6 +42,6 @@ unfolding exact
 size-exact class partition small =
     let s = listed class partition in
     let n = degree class in
-    let there = every-at exact (listing n) [] (rank class) (below-at (λ n. every exact (listing n)) 17 n all-exact (omega arith))
-    (s .within) in
+    let all = below-at (λ n. every exact (listing n)) (suc degreeLimit) n all-exact (omega arith) in
+    let there = every-at exact (listing n) [] (rank class) all (s .within) in
     eqb-true _ _ (rw (s .at) at there)

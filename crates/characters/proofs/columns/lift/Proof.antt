@@ -117,9 +117,10 @@ same-length c = search needs
 
 returns : tie.Need-returns Inv-loop μ-loop
 returns c =
-    let s = struck (start-of (c .before .before .before)) in
+    let section = c .before .before .before in
+    let s = struck (start-of section) in
     rw (s .whole)
-    (lift-end _ _ _ _ (omega (arith, s .ends, ends (c .before .before .before), c .loop-test .left)) (c .before .loop .inv))
+    (lift-end _ _ _ _ (omega (arith, s .ends, ends section, c .loop-test .left)) (c .before .loop .inv))
 
 pub lift-spec : {M : Type 1} → statement M
 lift-spec =

@@ -3,14 +3,14 @@ use mathlib.Core.Path.{_≡_, _∙_, ap}
 use mir.Facts.{toZ-ofZ}
 use borrow.Author.Needs.{needs}
 use Rattle.theory.specs.Basics.{natAbs}
-use Rattle.tabletext.specs.Table.{decimal, minus, integer}
+use Rattle.tabletext.specs.Table.{decimal, minusSign, integer}
 use Rattle.tabletext.specs.Writing.{Wrote}
 use Rattle.tabletext.specs.Writing.Laws.{first-room, wrote-room, wrote-then}
 use Rattle.tabletext.proofs.text.integer.Statement.{statement}
 use Rattle.tabletext.proofs.text.integer.Tie as tie
 
 signed : (c : tie.After-minus) → let a = c .before .before .before .args in
-    Wrote (minus (a .z)) (a .at) (a .out .now) (c .minus .result) (c .minus .last .1 .0)
+    Wrote (minusSign (a .z)) (a .at) (a .out .now) (c .minus .result) (c .minus .last .1 .0)
 signed c = rw (toZ-ofZ (c .before .before .before .fits .z)) at (c .minus .ensures)
 
 sized : (c : tie.After-size) → c .size .result ≡ natAbs (c .before .before .before .before .before .before .args .z)
@@ -21,7 +21,7 @@ unfolding integer
 minus-requires c κs =
     let start = c .before .before in
     let z = start .args .z in
-    rw (toZ-ofZ (start .fits .z)) (first-room (minus z) (decimal (natAbs z)) _ _ (start .pre))
+    rw (toZ-ofZ (start .fits .z)) (first-room (minusSign z) (decimal (natAbs z)) _ _ (start .pre))
 
 size-requires : tie.Need-size-requires
 size-requires c κs = search needs

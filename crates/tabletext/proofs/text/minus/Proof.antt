@@ -4,16 +4,16 @@ use mathlib.Core.Path.{_≡_, ap}
 use mir.Facts.{toZ-ofZ}
 use borrow.Author.Needs.{needs}
 use Rattle.theory.specs.Basics.{[], length}
-use Rattle.tabletext.specs.Table.{ascii, minus}
+use Rattle.tabletext.specs.Table.{ascii, minusSign}
 use Rattle.tabletext.specs.Table.Decimals.{minus-below, no-minus}
 use Rattle.tabletext.specs.Writing.Laws.{wrote-none}
 use Rattle.tabletext.proofs.text.minus.Statement.{statement}
 use Rattle.tabletext.proofs.text.minus.Tie as tie
 
-below : (c : tie.Then1) → minus (c .before .before .args .z) ≡ ascii "-"
+below : (c : tie.Then1) → minusSign (c .before .before .args .z) ≡ ascii "-"
 below c = minus-below (c .before .before .args .z) (rw (toZ-ofZ (c .before .before .fits .z)) at (c .if1 .taken))
 
-not-below : (c : tie.Else1) → minus (c .before .before .args .z) ≡ []
+not-below : (c : tie.Else1) → minusSign (c .before .before .args .z) ≡ []
 not-below c = no-minus (c .before .before .args .z) (rw (toZ-ofZ (c .before .before .fits .z)) at (c .if1 .left))
 
 slice-aggregate-put : tie.Need-slice-aggregate-put

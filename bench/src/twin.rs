@@ -2,13 +2,20 @@
 #[allow(dead_code)]
 mod tables {
     include!("../../crates/characters/src/tables.rt");
+    include!("../../crates/listing/src/tables.rt");
 }
-use tables::{PLACES, STARTS, WORDS};
+use tables::{COUNTS, PLACES, STARTS, WORDS};
 
 const ROOM: usize = 1120;
 
 fn place(word: u32) -> usize {
     PLACES[(word >> 22) as usize] as usize + ((word >> 14) % 256) as usize
+}
+
+// The words of a degree, in listing order.
+fn section(degree: usize) -> &'static [u32] {
+    static ALL: [u32; 915] = WORDS;
+    &ALL[STARTS[degree]..][..COUNTS[degree]]
 }
 
 // The signed sum of what the table has for the words that the hooks of this length leave.
@@ -34,11 +41,11 @@ pub fn column(parts: &[u8], values: &mut [i64]) -> usize {
     let mut degree = 0usize;
     for &part in parts.iter().rev() {
         degree += part as usize;
-        for &shape in &WORDS[STARTS[degree] as usize..STARTS[degree + 1] as usize] {
+        for &shape in section(degree) {
             table[place(shape)] = hook_sum(&table, shape, part as u32);
         }
     }
-    let shapes = &WORDS[STARTS[degree] as usize..STARTS[degree + 1] as usize];
+    let shapes = section(degree);
     for (value, &shape) in values.iter_mut().zip(shapes) {
         *value = table[place(shape)];
     }

@@ -48,7 +48,7 @@ each-number : (P : ℕ → Type 0) → ((n : ℕ) → n < 100 → P n) → Each 
 each-number P f = (f 0 (omega arith), each-down P 99 (λ n h. f n (omega arith)))
 
 -- ---- the same text
-same-text : (t u : Text) → same t u ≡ true → t ≡ u
+pub same-text : (t u : Text) → same t u ≡ true → t ≡ u
 same-text [] [] e = refl
 same-text [] (b ∷ u) e = absurd (false≢true e)
 same-text (a ∷ t) [] e = absurd (false≢true e)

@@ -8,6 +8,7 @@ use Rattle.theory.specs.Listing.{partitions, listing, same, column}
 use Rattle.theory.specs.Refusals.{degreeLimit}
 use Rattle.tabletext.specs.Table.{Text, ascii, decimal, integer, commas}
 use Rattle.tabletext.specs.Table.{classText, classLines, table, asked, chartable}
+use Rattle.tabletext.specs.Table.Asked.{same-text}
 
 unfoldable pub degree-3 : Text
 degree-3 =
@@ -15,7 +16,10 @@ degree-3 =
     ++ ascii "class=2,1\nsize=3\nvalues=1,0,-1\n"
     ++ ascii "class=1,1,1\nsize=1\nvalues=1,2,1\n" ++ ascii "end=3\n"
 
-pub sample : same (chartable degreeLimit (ascii "degree=3\n")) degree-3 ≡ true
+same-bytes : same (chartable degreeLimit (ascii "degree=3\n")) degree-3 ≡ true
 unfolding degree-3 chartable asked table classLines classText commas integer decimal listing partitions column character
     classSize classDivisor factorial
-sample = refl
+same-bytes = refl
+
+pub sample : chartable degreeLimit (ascii "degree=3\n") ≡ degree-3
+sample = same-text _ degree-3 same-bytes

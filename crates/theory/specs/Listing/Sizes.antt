@@ -1,7 +1,7 @@
 -- The size of a class is exact (document 01, "Size of a class"): within the limit n! is divided without a remainder.
 --   exact class        the size times what n! is divided by is n! again
 --   all-below test m   all numbers below m pass the test
-use mathlib.Core.Path.{_≡_, refl, sym}
+use mathlib.Core.Path.{_≡_, refl}
 use Prim.Native.Nat.{_≤_, _<_}
 use native.Mathlib.Decide.{ℕ-discrete}
 use native.Mathlib.Omega.{arith}

@@ -8,7 +8,7 @@ use native.Mathlib.Decide.{ℕ-discrete}
 use native.Mathlib.Omega.{arith}
 use lib.ListN.{length-append, length-map, List·getD-append}
 use lib.Seq.{getD-append-add}
-use Rattle.theory.specs.Basics.{true, List, [], _∷_, _++_, map, ℕ, zero, suc, _+_, _-_, length, getD, take, total}
+use Rattle.theory.specs.Basics.{true, List, [], _∷_, map, ℕ, zero, suc, _+_, _-_, length, getD, take, total}
 use Rattle.theory.specs.Basics.Places.{map-at}
 use Rattle.theory.specs.Partition.{degree}
 use Rattle.theory.specs.Digits.{width}

@@ -1,9 +1,10 @@
 #!/usr/bin/env python3
-"""tables.py: writes the tables of the listing, crates/listing/src/tables.rt, and the places of shape words,
-crates/characters/src/tables.rt and specs/Places.antt. Run it in the repository, then `rt fmt`. What it writes is not
-believed: the functions that read a table say its rule, and are proved."""
+"""tables.py: writes the tables of the listing, crates/listing/src/tables.rt, and the displacements that give shape
+words their places, crates/characters/src/tables.rt and specs/Private/Displacements.antt. Run it in the repository, then
+`rt fmt`. What it writes is not believed: the functions that read a table say its rule, and are proved."""
 
 LIMIT = 16
+EIGHT_DIGITS = 256
 
 
 def partitions(n, most):
@@ -21,13 +22,13 @@ def shape_word(rows):
     return int(digits.ljust(31, '0'), 2)
 
 
-def displacements(words):
+def displaced(words):
     """For the eight high digits of a word (bits 29 to 22) a number such that it and the eight low ones (bits 21 to 14)
     add up to a place that no other word has. The largest group of words goes first, to the lowest places it fits."""
     groups = {}
     for word in words:
-        groups.setdefault(word >> 22, []).append((word >> 14) % 256)
-    taken, chosen = set(), [0] * 256
+        groups.setdefault(word >> 22, []).append((word >> 14) % EIGHT_DIGITS)
+    taken, chosen = set(), [0] * EIGHT_DIGITS
     for high in sorted(groups, key=lambda high: (-len(groups[high]), high)):
         while any(chosen[high] + low in taken for low in groups[high]):
             chosen[high] += 1
@@ -39,12 +40,16 @@ listing = [list(partitions(n, n)) for n in range(LIMIT + 1)]
 counts = [len(shapes) for shapes in listing]
 words = [shape_word(rows) for shapes in listing for rows in shapes]
 starts = [sum(counts[:n]) for n in range(LIMIT + 1)]
-places = displacements(words)
+displacements = displaced(words)
 
 
-def table(comment, name, kind, entries):
+def number(comment, name, value):
+    return '\n// %s\npub const %s: usize = %d;\n' % (comment, name, value)
+
+
+def table(comment, name, kind, entries, length=None):
     lines = ''.join('    %d,\n' % entry for entry in entries)
-    return '\n// %s\npub const %s: [%s; %d] = [\n%s];\n' % (comment, name, kind, len(entries), lines)
+    return '\n// %s\npub const %s: [%s; %s] = [\n%s];\n' % (comment, name, kind, length or len(entries), lines)
 
 
 with open('crates/listing/src/tables.rt', 'w') as file:
@@ -55,11 +60,17 @@ with open('crates/listing/src/tables.rt', 'w') as file:
 
 with open('crates/characters/src/tables.rt', 'w') as file:
     file.write('// Made by tools/tables.py; lookup.rt says what the table has, and is proved.\n')
-    file.write(table('A shape word t has the place PLACES[t >> 22] + (t >> 14) % 256: no two have one.', 'PLACES',
-                     'u16', places))
+    file.write(number('Eight digits make numbers below it.', 'EIGHT_DIGITS', EIGHT_DIGITS))
+    file.write(number('Places are below it.', 'PLACE_COUNT', max(displacements) + EIGHT_DIGITS))
+    file.write(table('A shape word t has the place DISPLACEMENTS[t >> 22] + (t >> 14) % EIGHT_DIGITS: no two have one.',
+                     'DISPLACEMENTS', 'u16', displacements, 'EIGHT_DIGITS'))
 
-with open('crates/characters/specs/Places.antt', 'w') as file:
-    rows = [' ∷ '.join(map(str, places[i:i + 16])) for i in range(0, 256, 16)]
-    file.write('-- Made by tools/tables.py: the displacements that give the shape words their places (Tables.antt).\n')
-    file.write('use Rattle.theory.specs.Basics.{List, [], _∷_, ℕ}\n\nunfoldable pub places : List ℕ\nplaces =\n    ')
+with open('crates/characters/specs/Private/Displacements.antt', 'w') as file:
+    rows = [' ∷ '.join(map(str, displacements[i:i + 16])) for i in range(0, EIGHT_DIGITS, 16)]
+    file.write('-- Made by tools/tables.py: the displacements that give the shape words their places (Places.antt).\n')
+    file.write('--   displacementTable     one for each number of eight digits\n')
+    file.write('--   largestDisplacement   the largest of them\n')
+    file.write('use Rattle.theory.specs.Basics.{List, [], _∷_, ℕ}\n\n')
+    file.write('abbrev pub largestDisplacement : ℕ\nlargestDisplacement = %d\n\n' % max(displacements))
+    file.write('unfoldable pub displacementTable : List ℕ\ndisplacementTable =\n    ')
     file.write(' ∷\n    '.join(rows) + ' ∷ []\n')

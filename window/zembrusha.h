@@ -1,4 +1,4 @@
-/* zembrusha.h: characters of the symmetric group, step by step. The calls of libwindow.a.
+/* zembrusha.h: characters of the symmetric group, step by step. The calls of libzembrusha.a.
  *
  * Partitions have degree 0 to 16. A shape word packs a partition as a shape, a class word packs it as a class of
  * permutations; docs/READING.md has the rules. Every call takes every number: what it cannot answer it refuses, with

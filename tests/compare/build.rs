@@ -1,8 +1,8 @@
-//! Links target/staticlib/libwindow.a of the repository.
+//! Links target/staticlib/libzembrusha.a of the repository.
 
 fn main() {
     let archives = concat!(env!("CARGO_MANIFEST_DIR"), "/../../target/staticlib");
-    println!("cargo:rerun-if-changed={archives}/libwindow.a");
+    println!("cargo:rerun-if-changed={archives}/libzembrusha.a");
     println!("cargo:rustc-link-search=native={archives}");
-    println!("cargo:rustc-link-lib=static=window");
+    println!("cargo:rustc-link-lib=static=zembrusha");
 }

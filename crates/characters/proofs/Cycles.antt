@@ -13,10 +13,10 @@ use Rattle.theory.specs.Partition.{Parts, times, without}
 use Rattle.theory.specs.Digits.{word}
 use Rattle.theory.specs.Digits.Laws.{one-shifted, word-none, word-below}
 use Rattle.theory.specs.ClassWord.{classDigits, classWord, classOf}
-use Rattle.theory.specs.ClassWord.Front.{word-front}
+use Rattle.theory.specs.ClassWord.Laws.{class-word-front}
 use Rattle.theory.specs.ClassWord.Reading.{word-moved}
-use Rattle.words.proofs.ClassLoops.{partsLeft, turn, no-parts-left}
-use Rattle.characters.specs.Lines.{struck, struckClass}
+use Rattle.words.proofs.ClassLoops.{partsLeft, next-part, no-parts-left}
+use Rattle.characters.specs.Private.Striking.{withoutCycle, classWithout}
 
 pub record Striking (w cycle at rest : ℕ) : Type 0 where
   pub below : rest < 2 ^ (31 - at)
@@ -35,8 +35,8 @@ strike-start w cycle l = record {
 
 module _ (w cycle at rest : ℕ) (s : Striking w cycle at rest) where
   -- no part is left
-  pub strike-end : rest ≡ 0 → struck false w ≡ struckClass cycle w
-  unfolding struckClass
+  pub strike-end : rest ≡ 0 → withoutCycle false w ≡ classWithout cycle w
+  unfolding classWithout
   strike-end e =
       let none : partsLeft at rest ≡ [] = no-parts-left at rest e in
       let same : classWord (without cycle (classOf w)) ≡ w =
@@ -54,7 +54,7 @@ module _ (w cycle at rest : ℕ) (s : Striking w cycle at rest) where
     module _ (hit : one - at ≡ cycle) where
       struck-word : classWord (without cycle (classOf w)) ≡ w - rest + behind * 2 ^ (one - at) % 2 ^ 32
       struck-word =
-          let t = turn at rest more (s .below) in
+          let t = next-part at rest more (s .below) in
           let size : 31 - one + (one - at) ≡ 31 - at = omega (arith, t .above, t .within) in
           let moved = rw size at (word-moved (31 - one) (one - at) behind (t .left)) in
           let small : behind * 2 ^ (one - at) < 2 ^ (31 - at) = rw size at (shl-lt (31 - one) (one - at) (t .left)) in
@@ -65,10 +65,10 @@ module _ (w cycle at rest : ℕ) (s : Striking w cycle at rest) where
       pub strike-fits : w - rest + behind * 2 ^ (one - at) % 2 ^ 32 < 2 ^ 31
       strike-fits = rw struck-word at (word-below 31 (classDigits (without cycle (classOf w))))
 
-      pub strike-hit : struck true (w - rest + behind * 2 ^ (one - at) % 2 ^ 32) ≡ struckClass cycle w
-      unfolding struckClass
+      pub strike-hit : withoutCycle true (w - rest + behind * 2 ^ (one - at) % 2 ^ 32) ≡ classWithout cycle w
+      unfolding classWithout
       strike-hit =
-          let t = turn at rest more (s .below) in
+          let t = next-part at rest more (s .below) in
           let some : times cycle (classOf w) ≡ 0 → ⊥ =
           rw (s .counts, t .reads, eq-eqb (one - at) cycle hit) (λ none. omega arith) in
           rw (← struck-word, ne-eqb (times cycle (classOf w)) 0 some)
@@ -76,7 +76,7 @@ module _ (w cycle at rest : ℕ) (s : Striking w cycle at rest) where
     -- the part is another
     pub strike-miss : (one - at ≡ cycle → ⊥) → Striking w cycle one behind
     strike-miss miss =
-        let t = turn at rest more (s .below) in
+        let t = next-part at rest more (s .below) in
         let e = ne-eqb (one - at) cycle miss in
         let others : Parts = without cycle (partsLeft one behind) in
         let part : 0 < one - at = omega (arith, t .above) in
@@ -87,7 +87,7 @@ module _ (w cycle at rest : ℕ) (s : Striking w cycle at rest) where
           below = t .left;
           inside = omega (arith, s .inside);
           makes = s .makes
-              ∙ rw (t .reads, e, word-front (31 - at) (one - at) others part fits, size, ← shifted)
+              ∙ rw (t .reads, e, class-word-front (31 - at) (one - at) others part fits, size, ← shifted)
               (omega (arith, t .takes, s .inside));
           counts = s .counts ∙ rw (t .reads, e);
         }

@@ -1,4 +1,4 @@
-pub mod Judging
+pub mod WordPairs
 pub mod Signed
 pub mod HookSums
 pub mod Walks
@@ -6,13 +6,17 @@ pub mod Cycles
 pub mod SoundLines
 pub mod Sums
 pub mod Strips
+pub mod SpanTable
+pub mod Zeros
 pub mod Budgets
+pub mod SoundPages
 pub mod Pages
 pub mod Openings
 pub mod Steps
 pub mod Strikes
 pub mod Watches
-pub mod Places
+pub mod PlaceLaws
+pub mod KeptTables
 pub mod Lifts
 pub mod Entries
 pub mod ColumnAnswers

@@ -1,107 +1,49 @@
--- Tables of characters: that of no cycle, and how one cycle more changes a table, entry by entry.
---   Cut cycles i n            the i-th cycle and those after it, together of degree n
---   Lifting h cs table i      a table of the cycles cs that becomes one of h ∷ cs: the words before index i are done
---   Turn words i h            what its next turn goes by: a good word at the index i, and a cycle h of a good length
---   Filling cycles table i n  a table of the cycles from the i-th on, which have the degree n
---   Earlier cycles table i n  it has those after the i-th, and those from the i-th on have the degree n
-use mathlib.Core.Path.{_≡_, refl, sym, _∙_, ap}
+-- One cycle more changes a table of characters, entry by entry; and so do all cycles, from the last.
+--   Cut limit cycles i n        the i-th cycle and those after it, together of degree n
+--   Lifting p h cs table i      a table of the cycles cs that becomes one of h ∷ cs: the words before index i are done
+--   NextWord limit words i h    how the next is done: the word at the index i, and a cycle h of a good length
+--   Filling p cycles table i n  a table of the cycles from the i-th on, which have the degree n
+--   Earlier p cycles table i n  it has those after the i-th, and those from the i-th on have the degree n
+use mathlib.Core.Path.{_≡_, sym, _∙_, ap}
 use Prim.Native.Nat.{_≤_, _<_}
 use native.Mathlib.Nat.{le-refl}
 use native.Mathlib.Numerals.{add-one}
 use native.Mathlib.Decide.{ℕ-discrete}
 use native.Mathlib.Omega.{arith}
-use lib.ListN.{set, length-set, length-replicate}
-use lib.Seq.{getD-set-same, getD-set-other, drop-length}
-use borrow.Author.Tests.{lt-ltb, ltb-true, eq-eqb, eqb-true}
-use Rattle.theory.specs.Basics.{List, [], _∷_, length, getD, drop, replicate, ℕ, zero, suc, _+_, _-_, _^_}
-use Rattle.theory.specs.Basics.{ℤ, pos, natAbs}
+use lib.ListN.{set}
+use lib.Seq.{drop-length}
+use Rattle.theory.specs.Basics.{true, List, [], _∷_, length, getD, drop, signed, ℕ, suc, _+_, _-_, ℤ}
 use Rattle.theory.specs.Basics.Laws.{sum-same}
 use Rattle.theory.specs.Partition.{Parts, degree}
 use Rattle.theory.specs.Partition.Laws.{no-zero-drop, degree-drop}
-use Rattle.theory.specs.ShapeWord.{shapeOf}
-use Rattle.theory.specs.ShapeWord.Empty.{empty-word}
+use Rattle.theory.specs.ShapeWord.{shapeOf, goodShape}
 use Rattle.theory.specs.Character.{_on_}
-use Rattle.theory.specs.Hooks.{hookWords, signed}
+use Rattle.theory.specs.Hooks.{hookWords}
 use Rattle.theory.specs.Hooks.Words.{Left, hooks-leave}
-use Rattle.theory.specs.Bounds.{factorial}
 use Rattle.theory.specs.Listing.{start}
-use Rattle.theory.specs.Listing.Words.{Ranked, start-rises, index, ranked-at}
-use Rattle.theory.specs.Refusals.{degreeLimit}
+use Rattle.theory.specs.Listing.Words.{start-rises, index, indexed, ranked-at}
 use Rattle.theory.specs.Refusals.Laws.{Within}
 use Rattle.words.proofs.PartLists.{next-left, degree-left}
-use Rattle.characters.specs.Evaluation.{Fit, hookSum}
-use Rattle.listing.specs.Calls.{shapeWords}
-use Rattle.characters.specs.Tables.{placeOf, placeCount}
-use Rattle.characters.specs.Columns.{entry, Table, Cycles, Kept}
-use Rattle.listing.proofs.Indexes.{stands}
-use Rattle.characters.proofs.Places.{place-below, places-apart}
+use Rattle.listing.specs.Calls.{wordsWithin}
+use Rattle.characters.specs.Private.Evaluation.{Evaluable, hookSum}
+use Rattle.characters.specs.Private.Places.{Places}
+use Rattle.characters.specs.Private.Columns.{entry, Cycles, Kept}
+use Rattle.characters.proofs.PlaceLaws.{Placed}
 use Rattle.characters.proofs.Signed.{carried}
-use Rattle.characters.proofs.HookSums.{most}
-use Rattle.characters.proofs.Walks.{character-bounded, character-carried}
-use Rattle.characters.proofs.Walks.{cycle-long, fit-left, struck, value-none}
+use Rattle.characters.proofs.Walks.{shape-within, widened, character-bounded, character-carried}
+use Rattle.characters.proofs.Walks.{cycle-long, evaluable-left, hook-rule-holds}
+use Rattle.characters.proofs.KeptTables.{ranked-evaluable, set-same, set-other, set-form}
 
--- ---- fitting words
-pub ranked-fits : (cs : Parts) → Cycles cs → (i w : ℕ) → Ranked (degree cs) i w → Fit w cs
-ranked-fits cs cycles i w r = record {
-  good = ltb-true w (2 ^ 30) (r .good);
-  no-zero = cycles .no-zero;
-  degrees = r .of-degree;
-  small = cycles .small;
-}
-
-within-limit : (w : ℕ) (cs : Parts) → Fit w cs → Within degreeLimit w
-within-limit w cs f = record { good = lt-ltb w (2 ^ 30) (f .good); small = omega (arith, f .degrees, f .small) }
-
--- ---- one entry
-module _ (table : List ℤ) (k : ℕ) (x : ℤ) (form : Table table) (room : k < placeCount) where
-  set-same : getD (set table k x) k (pos 0) ≡ x
-  set-same = getD-set-same table k x (pos 0) (omega (arith, form .long))
-
-  set-form : natAbs x ≤ most → Table (set table k x)
-  set-form small = record {
-    long = length-set table k x ∙ form .long;
-    bounded = λ i. elim (ℕ-discrete i k) [
-      | yes e ↦ rw (e, set-same) small
-      | no f ↦ rw (getD-set-other table k i x (pos 0) f) (form .bounded i)
-    ];
-  }
-
--- ---- no cycle
-zeros-form : (n : ℕ) → n ≡ placeCount → Table (replicate n (pos 0))
-zeros-form n e = record { long = length-replicate n (pos 0) ∙ e; bounded = λ i. rw (nothing n i) (omega arith) }
-  where
-    nothing : (n i : ℕ) → getD (replicate n (pos 0)) i (pos 0) ≡ pos 0
-    nothing zero i = refl
-    nothing (suc n) zero = refl
-    nothing (suc n) (suc i) = nothing n i
-
--- the empty shape has 1 at its place, and nothing else has its degree
-pub kept-empty : (n i : ℕ) → n ≡ placeCount → i ≡ placeOf 0 → Kept (set (replicate n (pos 0)) i (pos 1)) []
-kept-empty n i e at =
-    let zeros : List ℤ = replicate n (pos 0) in
-    let form = zeros-form n e in
-    let room = place-below 0 (omega arith) in
-    let one : 1 ≤ most = unfold factorial in omega arith in
-    rw at
-    (record {
-      form = set-form zeros (placeOf 0) (pos 1) form room one;
-      holds = λ w f.
-          let empty : w ≡ 0 = eqb-true w 0
-          (empty-word w (within-limit w [] f .good) ∙ eq-eqb (degree (shapeOf w)) 0 (f .degrees)) in
-          ap (entry (set zeros (placeOf 0) (pos 1))) empty ∙ set-same zeros (placeOf 0) (pos 1) form room
-          ∙ sym (value-none w f);
-    })
-
--- ---- one cycle more
-pub record Cut (cycles : Parts) (i n : ℕ) : Type 0 where
+-- ---- the cycles from the i-th on
+pub record Cut (limit : ℕ) (cycles : Parts) (i n : ℕ) : Type 0 where
   pub whole : drop i cycles ≡ getD cycles i 0 ∷ drop (i + 1) cycles
-  pub all : Cycles (getD cycles i 0 ∷ drop (i + 1) cycles)
+  pub all : Cycles limit (getD cycles i 0 ∷ drop (i + 1) cycles)
   pub starts : start n ≡ start (degree (getD cycles i 0 ∷ drop (i + 1) cycles))
   pub ends : start (n + 1) ≡ start (suc (degree (getD cycles i 0 ∷ drop (i + 1) cycles)))
 
-pub cut : (cycles : Parts) (i n : ℕ) → i < length cycles → n ≡ degree (drop i cycles) → Cycles (drop i cycles)
-    → Cut cycles i n
-cut cycles i n inside e from =
+pub cut : (limit : ℕ) (cycles : Parts) (i n : ℕ) → i < length cycles → n ≡ degree (drop i cycles)
+    → Cycles limit (drop i cycles) → Cut limit cycles i n
+cut limit cycles i n inside e from =
     let whole = next-left cycles i inside in
     let of-degree : n ≡ degree (getD cycles i 0 ∷ drop (i + 1) cycles) = e ∙ ap degree whole in
     record {
@@ -111,108 +53,113 @@ cut cycles i n inside e from =
       ends = rw (add-one n, of-degree);
     }
 
-pub record Turn (words : List ℕ) (i h : ℕ) : Type 0 where
+-- ---- one cycle more
+pub record Lifting (p : Places) (h : ℕ) (cs : Parts) (table : List ℤ) (i : ℕ) : Type 0 where
+  pub kept : Kept p table cs
+  pub from : start (degree (h ∷ cs)) ≤ i
+  pub done : (w : ℕ) → Evaluable (p .limit) w (h ∷ cs) → index w < i → entry p table w ≡ shapeOf w on (h ∷ cs)
+
+pub record NextWord (limit : ℕ) (words : List ℕ) (i h : ℕ) : Type 0 where
   pub inside : i < length words
-  pub good : getD words i 0 < 2 ^ 30
+  pub within : Within limit (getD words i 0)
+  pub good : goodShape (getD words i 0) ≡ true
   pub long : 0 < h
   pub short : h < 32
 
-module _ (h : ℕ) (cs : Parts) where
+module _ {p : Places} (placed : Placed p) (h : ℕ) (cs : Parts) where
   -- the degree that the table is lifted to
   abbrev n : ℕ
   n = degree (h ∷ cs)
 
-  pub record Lifting (table : List ℤ) (i : ℕ) : Type 0 where
-    pub kept : Kept table cs
-    pub from : start n ≤ i
-    pub done : (w : ℕ) → Fit w (h ∷ cs) → index w < i → entry table w ≡ shapeOf w on (h ∷ cs)
-
-  pub lift-start : (table : List ℤ) → Kept table cs → Lifting table (start n)
+  pub lift-start : (table : List ℤ) → Kept p table cs → Lifting p h cs table (start n)
   lift-start table kept = record {
     kept = kept;
     from = le-refl (start n);
-    done = λ w f l. absurd (omega (arith, ap start (f .degrees)));
+    done = λ w e l. absurd (omega (arith, ap start (e .degrees)));
   }
 
-  pub lift-end : (table : List ℤ) (i : ℕ) → start (suc n) ≤ i → Lifting table i → Kept table (h ∷ cs)
+  pub lift-end : (table : List ℤ) (i : ℕ) → start (suc n) ≤ i → Lifting p h cs table i → Kept p table (h ∷ cs)
   lift-end table i past l = record {
     form = l .kept .form;
-    holds = λ w f.
-        let end : start (suc (degree (shapeOf w))) ≡ start (suc n) = ap (λ (d : ℕ). start (suc d)) (f .degrees) in
-        l .done w f (omega (arith, stands w (within-limit w (h ∷ cs) f) .in-degree));
+    holds = λ w e.
+        let end : start (suc (degree (shapeOf w))) ≡ start (suc n) = ap (λ (d : ℕ). start (suc d)) (e .degrees) in
+        let stands = indexed (suc (p .limit)) w (e .good) (omega (arith, e .degrees, e .small)) in
+        l .done w e (omega (arith, stands .in-degree));
   }
 
-  module _ (cycles : Cycles (h ∷ cs)) (table : List ℤ) (i : ℕ) (l : Lifting table i) (more : i < start (suc n)) where
+  module _ (cycles : Cycles (p .limit) (h ∷ cs)) (table : List ℤ) (i : ℕ) (l : Lifting p h cs table i)
+      (more : i < start (suc n)) where
     abbrev here : ℕ
-    here = getD shapeWords i 0
+    here = getD (wordsWithin (p .limit)) i 0
 
-    here-fits : Fit here (h ∷ cs)
-    here-fits =
+    here-evaluable : Evaluable (p .limit) here (h ∷ cs)
+    here-evaluable =
         let small = cycles .small in
-        ranked-fits (h ∷ cs) cycles (i - start n) here
-        (ranked-at (suc degreeLimit) n i (omega arith) (omega arith) (l .from) more)
+        let room = placed .room in
+        ranked-evaluable cycles (ranked-at (suc (p .limit)) n i (omega arith) (omega arith) (l .from) more)
 
-    pub lift-turn : (words : List ℕ) → words ≡ shapeWords → Turn words i h
-    lift-turn words same =
+    pub lift-word : (words : List ℕ) → words ≡ wordsWithin (p .limit) → NextWord (p .limit) words i h
+    lift-word words same =
         let small = cycles .small in
-        let fit = here-fits in
+        let room = placed .room in
         rw same
         (record {
-          inside = omega (arith, start-rises (suc n) (suc degreeLimit) (omega arith));
-          good = fit .good;
-          long = cycle-long here h cs fit;
+          inside = omega (arith, start-rises (suc n) (suc (p .limit)) (omega arith));
+          within = shape-within here-evaluable;
+          good = here-evaluable .good;
+          long = cycle-long here-evaluable;
           short = omega arith;
         })
 
-    sum-is : hookSum (entry table) h here ≡ shapeOf here on (h ∷ cs)
+    sum-is : hookSum (entry p table) h here ≡ shapeOf here on (h ∷ cs)
     unfolding hookSum
     sum-is =
         sum-same (Left h here) _ _ (hookWords h here)
         (λ hook left.
-        ap (signed (hook .minus)) (l .kept .holds (hook .leaves) (fit-left here h cs here-fits hook left)))
+        ap (signed (hook .minus)) (l .kept .holds (hook .leaves) (evaluable-left here-evaluable hook left)))
         (hooks-leave h here)
-        ∙ struck here h cs here-fits
+        ∙ hook-rule-holds here-evaluable
 
-    new : carried (hookSum (entry table) h here) ≡ shapeOf here on (h ∷ cs)
-    new = rw sum-is (character-carried here (h ∷ cs) here-fits)
+    new : carried (hookSum (entry p table) h here) ≡ shapeOf here on (h ∷ cs)
+    new = rw sum-is (character-carried (widened here-evaluable (placed .room)))
 
-    pub lift-next : Lifting (set table (placeOf here) (carried (hookSum (entry table) h here))) (i + 1)
+    pub lift-next : Lifting p h cs (set table (p .place here) (carried (hookSum (entry p table) h here))) (i + 1)
     lift-next =
         let x : ℤ = shapeOf here on (h ∷ cs) in
         let form = l .kept .form in
-        let room = place-below here (here-fits .good) in
-        let own = within-limit here (h ∷ cs) here-fits in
+        let good = here-evaluable .good in
+        let own = shape-within here-evaluable in
         rw new
         (record {
           kept = record {
-            form = set-form table (placeOf here) x form room (character-bounded here (h ∷ cs) here-fits);
-            holds = λ w f.
-                let other : placeOf w ≡ placeOf here → ⊥ = λ same.
-                let e = ap (λ (v : ℕ). degree (shapeOf v)) (places-apart w here (within-limit w cs f) own same) in
-                omega (arith, f .degrees, here-fits .degrees, cycle-long here h cs here-fits) in
-                getD-set-other table (placeOf here) (placeOf w) x (pos 0) other ∙ l .kept .holds w f;
+            form = set-form placed table here x form good own (character-bounded here-evaluable);
+            holds = λ w e.
+                let other : p .place w ≡ p .place here → ⊥ = λ same.
+                let same-degree = ap (λ (v : ℕ). degree (shapeOf v)) (placed .apart w here (shape-within e) own same) in
+                omega (arith, e .degrees, here-evaluable .degrees, cycle-long here-evaluable) in
+                set-other placed table here x form good w other ∙ l .kept .holds w e;
           };
           from = omega (arith, l .from);
-          done = λ w f before.
-              let its = within-limit w (h ∷ cs) f in
-              elim (ℕ-discrete (placeOf w) (placeOf here)) [
-                | yes same ↦
-                    rw (places-apart w here its own same) (set-same table (placeOf here) x form room)
+          done = λ w e before.
+              let its = shape-within e in
+              let stands = indexed (suc (p .limit)) w (e .good) (omega (arith, its .small)) in
+              elim (ℕ-discrete (p .place w) (p .place here)) [
+                | yes same ↦ rw (placed .apart w here its own same) (set-same placed table here x form good)
                 | no other ↦
-                    let earlier : index w ≡ i → ⊥ = λ e.
-                    other (ap placeOf (sym (stands w its .at) ∙ ap (λ (j : ℕ). getD shapeWords j 0) e)) in
-                    getD-set-other table (placeOf here) (placeOf w) x (pos 0) other ∙ l .done w f (omega arith)
+                    let earlier : index w ≡ i → ⊥ = λ at.
+                    other (ap (p .place) (sym (stands .at) ∙ ap (λ (j : ℕ). getD (wordsWithin (p .limit)) j 0) at)) in
+                    set-other placed table here x form good w other ∙ l .done w e (omega arith)
               ];
         })
 
 -- ---- all cycles, from the last
-module _ (cycles : Parts) where
+module _ (p : Places) (cycles : Parts) where
   pub record Filling (table : List ℤ) (i n : ℕ) : Type 0 where
     pub within : i ≤ length cycles
     pub of-degree : n ≡ degree (drop i cycles)
-    pub kept : Kept table (drop i cycles)
+    pub kept : Kept p table (drop i cycles)
 
-  pub fill-start : (table : List ℤ) → Kept table [] → Filling table (length cycles) 0
+  pub fill-start : (table : List ℤ) → Kept p table [] → Filling table (length cycles) 0
   fill-start table kept = record {
     within = le-refl (length cycles);
     of-degree = sym (ap degree (drop-length cycles));
@@ -221,11 +168,11 @@ module _ (cycles : Parts) where
 
   pub record Earlier (table : List ℤ) (i n : ℕ) : Type 0 where
     pub inside : i < length cycles
-    pub from : Cycles (drop i cycles)
+    pub from : Cycles (p .limit) (drop i cycles)
     pub of-degree : n ≡ degree (drop i cycles)
-    pub kept : Kept table (drop (i + 1) cycles)
+    pub kept : Kept p table (drop (i + 1) cycles)
 
-  pub fill-next : Cycles cycles → (table : List ℤ) (i n : ℕ) → Filling table i n → 0 < i
+  pub fill-next : Cycles (p .limit) cycles → (table : List ℤ) (i n : ℕ) → Filling table i n → 0 < i
       → Earlier table (i - 1) (n + getD cycles (i - 1) 0)
   fill-next all table i n f more =
       let inside : i - 1 < length cycles = omega (arith, f .within) in

@@ -5,14 +5,15 @@ use native.Mathlib.Omega.{arith}
 use borrow.Author.Tests.{lt-ltb, le-ltb, eq-eqb, ne-eqb}
 use lib.ListN.{set}
 use Rattle.theory.specs.Basics.{false, List, [], _∷_, _++_, length, replicate, ℕ, zero, suc, _-_, pos}
+use Rattle.theory.specs.Limits.{pageLimit}
 use Rattle.theory.specs.Partition.{degree}
 use Rattle.theory.specs.ShapeWord.{shapeOf}
-use Rattle.theory.specs.Refusals.{firstOf, degreeLimit, pageLimit, pairRows, no-6, no-10, Row}
-use Rattle.theory.specs.Refusals.Laws.{first-refuses, none-refuses, none-applies, judged-refused}
+use Rattle.theory.specs.Refusals.{Check, firstOf, pairChecks, no-6, no-10}
+use Rattle.theory.specs.Refusals.Laws.{first-refuses, first-passes, or-refused}
 use Rattle.words.specs.Answers.{Outcome}
-use Rattle.characters.specs.declared.Handed.{Handed}
-use Rattle.characters.specs.Line.{line}
-use Rattle.characters.specs.Opening.{slipOf, blank, handed, firstLines, opening}
+use Rattle.characters.specs.Page.{wordOf, slipOf, blank, handed, Handed}
+use Rattle.characters.specs.Page.Words.{plain}
+use Rattle.characters.specs.Opening.{firstLines, opening}
 
 set-first : (n w : ℕ) → (n ≡ 0 → ⊥) → set (replicate n 0) 0 w ≡ w ∷ replicate (n - 1) 0
 set-first zero w some = absurd (some refl)
@@ -20,32 +21,32 @@ set-first (suc n) w some =
     let e : suc n - 1 ≡ n = omega arith in
     rw e
 
-module _ (s c : ℕ) (page : List ℕ) where
-  abbrev rows : List Row
-  rows = no-6 page ∷ no-10 (firstLines s c) page ∷ []
+module _ (limit s c : ℕ) (page : List ℕ) where
+  abbrev behind : List Check
+  behind = no-6 page ∷ no-10 (firstLines s c) page ∷ []
 
   abbrev Opened : Handed → List ℕ → Type 0
-  Opened r after = Outcome (opening degreeLimit s c page) r after
+  Opened r after = Outcome (opening limit s c page) r after
 
-  refused : (k : ℕ) → firstOf (pairRows degreeLimit s c ++ rows) ≡ k → (k ≡ 0 → ⊥) → Opened (handed k blank) page
+  refused : (k : ℕ) → firstOf (pairChecks limit s c ++ behind) ≡ k → (k ≡ 0 → ⊥) → Opened (handed k blank) page
   unfolding opening
   refused k e some =
-      rw (e, judged-refused {A = Handed × List ℕ} (λ k. (handed k blank, page)) _ k some)
+      rw (e, or-refused {A = Handed × List ℕ} (λ k. (handed k blank, page)) _ k some)
       (record { answers = refl; leaves = refl })
 
-  pub words-refuse : (k : ℕ) → k ≡ firstOf (pairRows degreeLimit s c) → (k ≡ 0 → ⊥) → Opened (handed k blank) page
+  pub words-refuse : (k : ℕ) → k ≡ firstOf (pairChecks limit s c) → (k ≡ 0 → ⊥) → Opened (handed k blank) page
   words-refuse k e some =
-      refused k (first-refuses (pairRows degreeLimit s c) rows (λ z. some (e ∙ z)) ∙ sym e) some
+      refused k (first-refuses (pairChecks limit s c) behind (λ z. some (e ∙ z)) ∙ sym e) some
 
-  module _ (none : firstOf (pairRows degreeLimit s c) ≡ 0) where
-    words-pass : firstOf (pairRows degreeLimit s c ++ rows) ≡ firstOf rows
-    words-pass = none-refuses (pairRows degreeLimit s c) rows (none-applies (pairRows degreeLimit s c) refl none)
+  module _ (none : firstOf (pairChecks limit s c) ≡ 0) where
+    words-pass : firstOf (pairChecks limit s c ++ behind) ≡ firstOf behind
+    words-pass = first-passes (pairChecks limit s c) behind refl none
 
     pub page-refuses : pageLimit < length page → Opened (handed 6 blank) page
     page-refuses long = refused 6 (words-pass ∙ rw (lt-ltb pageLimit (length page) long)) (λ z. omega arith)
 
     module _ (short : length page ≤ pageLimit) where
-      page-passes : firstOf (pairRows degreeLimit s c ++ rows) ≡ firstOf (no-10 (firstLines s c) page ∷ [])
+      page-passes : firstOf (pairChecks limit s c ++ behind) ≡ firstOf (no-10 (firstLines s c) page ∷ [])
       page-passes = words-pass ∙ rw (le-ltb pageLimit (length page) short)
 
       pub empty-opens : degree (shapeOf s) ≡ 0
@@ -54,7 +55,7 @@ module _ (s c : ℕ) (page : List ℕ) where
       empty-opens e =
           let d = eq-eqb (degree (shapeOf s)) 0 e in
           let all : length page - 0 ≡ length page = omega arith in
-          let pass : firstOf (pairRows degreeLimit s c ++ rows) ≡ 0 =
+          let pass : firstOf (pairChecks limit s c ++ behind) ≡ 0 =
           page-passes ∙ rw (d, le-ltb (length page) 0 (omega arith)) in
           rw (pass, d, all) (record { answers = refl; leaves = refl })
 
@@ -66,10 +67,11 @@ module _ (s c : ℕ) (page : List ℕ) where
             (λ z. omega arith)
 
         pub line-opens : (length page ≡ 0 → ⊥)
-            → Opened (handed 0 (slipOf s c (pos 0) 1 (pos 0))) (set (replicate (length page) 0) 0 (line false s c))
+            → Opened (handed 0 (slipOf s c (pos 0) 1 (pos 0)))
+            (set (replicate (length page) 0) 0 (wordOf (plain false s c)))
         unfolding opening
         line-opens room =
             let d = ne-eqb (degree (shapeOf s)) 0 some in
-            let pass : firstOf (pairRows degreeLimit s c ++ rows) ≡ 0 =
+            let pass : firstOf (pairChecks limit s c ++ behind) ≡ 0 =
             page-passes ∙ rw (d, le-ltb (length page) 1 (omega arith)) in
-            rw (pass, d) (record { answers = refl; leaves = set-first (length page) (line false s c) room })
+            rw (pass, d) (record { answers = refl; leaves = set-first (length page) (wordOf (plain false s c)) room })

@@ -11,7 +11,7 @@ use lib.Seq.{take-take, take-set-lt, take-suc-set, drop-set-lt, drop-cons, appen
 use lib.Seq.{length-take-le, drop-length, take-at, drop-append-add, sets, sets-eq}
 use Rattle.theory.specs.Basics.{List, [], _∷_, _++_, length, getD, take, drop, replicate, ℕ, zero, suc, _+_, _-_}
 use Rattle.theory.specs.Basics.Laws.{Each}
-use Rattle.characters.specs.Pages.{others, takenOut, Exchanges, exchanged}
+use Rattle.characters.specs.Private.Pages.{others, takenOut, Exchanges, exchanged}
 
 -- ---- words that are 0
 pub zeros-are : (xs : List ℕ) → Each (λ x. x ≡ 0) xs → xs ≡ replicate (length xs) 0

@@ -87,6 +87,6 @@ pub below-zero : (z : ℤ) → SFits w64 z → ltZ (carried z) (pos 0) ≡ not (
 below-zero (pos n) s = rw (toZ-ofZ s) (le-ltb n 0 (omega arith))
 below-zero (negsuc n) s = rw (toZ-ofZ s) refl
 
-pub upright : (z : ℤ) → SFits w64 z → nonNeg z ≡ true → T (nonNeg (carried z)) × (natAbs (carried z) < 2 ^ 63)
-upright (pos n) s above = rw (toZ-ofZ s) (tt, s .sfits)
-upright (negsuc n) s above = absurd (false≢true above)
+pub not-below-zero : (z : ℤ) → SFits w64 z → nonNeg z ≡ true → T (nonNeg (carried z)) × (natAbs (carried z) < 2 ^ 63)
+not-below-zero (pos n) s above = rw (toZ-ofZ s) (tt, s .sfits)
+not-below-zero (negsuc n) s above = absurd (false≢true above)

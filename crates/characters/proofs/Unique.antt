@@ -1,8 +1,8 @@
 -- No second outcome meets a contract. Each theorem is of the contract itself, as Rattle reads it (`Reads.Post`).
 use mathlib.Core.Path.{_≡_, sym, _∙_}
 use denote.Ref.{now}
-use Rattle.theory.specs.Refusals.{degreeLimit}
-use Rattle.words.specs.Answers.{one-outcome}
+use Rattle.theory.specs.Limits.{degreeLimit}
+use Rattle.words.specs.Answers.Laws.{one-outcome}
 use Rattle.characters.specs.Calls.{columnInto}
 use Rattle.characters.specs.Opening.{opening}
 use Rattle.characters.specs.Step.{step}

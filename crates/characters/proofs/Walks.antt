@@ -1,97 +1,111 @@
--- The hook walk and the value: a fitting shape word and class, struck by one cycle.
---   First s w z   the value on the class word w strikes the cycle z first
+-- The hook walk and the value: a shape word and a class that can be evaluated, struck by one cycle.
+--   others w z         the class word w without its first cycle z: one shift drops it
+--   FirstCycle s w z   the value on the class word w strikes the cycle z first
 use mathlib.Core.Path.{_≡_, refl, sym, ap}
 use Prim.Native.Nat.{_≤_, _<_}
-use native.Mathlib.Nat.{lt-of-le-of-lt, le-trans, pos-of-ne-zero}
+use native.Mathlib.Nat.{lt-of-le-of-lt, pos-of-ne-zero}
 use native.Mathlib.Omega.{arith}
 use lib.Count.{leadingZeros}
-use borrow.Author.Tests.{ltb-true}
-use Rattle.theory.specs.Basics.{[], _∷_, ℕ, _*_, _%_, _^_, pos, natAbs}
+use Rattle.theory.specs.Basics.{[], _∷_, ℕ, suc, _*_, _%_, _^_, pos, natAbs}
 use Rattle.theory.specs.Partition.{Parts, degree}
 use Rattle.theory.specs.Partition.Laws.{NoZero, none, some}
 use Rattle.theory.specs.Digits.{digits, width}
 use Rattle.theory.specs.ShapeWord.{shapeOf}
+use Rattle.theory.specs.ShapeWord.Good.{good-shape}
 use Rattle.theory.specs.ShapeWord.Laws.{rows-partition}
 use Rattle.theory.specs.ClassWord.{classOf}
 use Rattle.theory.specs.ClassWord.Laws.{parts-none}
-use Rattle.theory.specs.ClassWord.Reading.{strike}
+use Rattle.theory.specs.ClassWord.Reading.{first-part}
 use Rattle.theory.specs.Character.{_on_}
-use Rattle.theory.specs.Character.Empty.{empty-on-empty}
+use Rattle.theory.specs.Character.Order.{empty-on-empty}
 use Rattle.theory.specs.Hooks.{Hook}
 use Rattle.theory.specs.Hooks.Words.{Left, hook-rule-first}
-use Rattle.theory.specs.Bounds.Laws.{factorial-rises}
-use Rattle.theory.specs.Bounds.Characters.{word-bounded}
-use Rattle.theory.specs.Refusals.{degreeLimit}
-use Rattle.words.proofs.Factorials.{factorial-fits}
-use Rattle.characters.specs.Evaluation.{Fit, hookSum}
+use Rattle.theory.specs.Bounds.{factorial}
+use Rattle.theory.specs.Hooks.Bounds.{word-bounded}
+use Rattle.theory.specs.Bounds.Laws.{largestLimit}
+use Rattle.theory.specs.Refusals.Laws.{Within}
+use Rattle.characters.specs.Private.Evaluation.{Evaluable, hookSum}
 use Rattle.characters.proofs.Signed.{carried, carried-is}
-use Rattle.characters.proofs.HookSums.{most, Walk}
+use Rattle.characters.proofs.HookSums.{Walk}
+use Rattle.words.proofs.Factorials.{factorial-fits}
 
--- ---- sizes
-pub character-bounded : (s : ℕ) (cs : Parts) → Fit s cs → natAbs (shapeOf s on cs) ≤ most
-character-bounded s cs f =
-    le-trans (word-bounded s cs (f .no-zero) (f .degrees)) (factorial-rises (degree cs) degreeLimit (f .small))
+-- ---- what can be evaluated
+module _ {limit s : ℕ} {cs : Parts} (e : Evaluable limit s cs) where
+  pub shape-within : Within limit s
+  shape-within = record { good = good-shape s (e .good); small = omega (arith, e .degrees, e .small) }
 
--- a character of a fitting pair has room in 64 bits
-pub character-carried : (s : ℕ) (cs : Parts) → Fit s cs → carried (shapeOf s on cs) ≡ shapeOf s on cs
-character-carried s cs f =
-    carried-is (shapeOf s on cs) (lt-of-le-of-lt (character-bounded s cs f) (factorial-fits degreeLimit (omega arith)))
+  pub widened : limit ≤ largestLimit → Evaluable largestLimit s cs
+  widened room = record { good = e .good; no-zero = e .no-zero; degrees = e .degrees; small = omega (arith, e .small) }
+
+  pub character-bounded : natAbs (shapeOf s on cs) ≤ factorial (degree (shapeOf s))
+  character-bounded = rw (e .degrees) (word-bounded s cs (e .no-zero) (e .degrees))
+
+-- its character has room in 64 bits
+pub character-carried : {s : ℕ} {cs : Parts} → Evaluable largestLimit s cs → carried (shapeOf s on cs) ≡ shapeOf s on cs
+character-carried {s} {cs} e =
+    carried-is (shapeOf s on cs)
+    (lt-of-le-of-lt (character-bounded e) (factorial-fits (degree (shapeOf s)) (shape-within e .small)))
 
 -- ---- one cycle struck
 positive : {p : ℕ} {ps : Parts} → NoZero (p ∷ ps) → 1 ≤ p
 positive (some n) = omega arith
 
-others : {p : ℕ} {ps : Parts} → NoZero (p ∷ ps) → NoZero ps
-others (some n) = n
+behind : {p : ℕ} {ps : Parts} → NoZero (p ∷ ps) → NoZero ps
+behind (some n) = n
 
-module _ (s h : ℕ) (cs : Parts) (fit : Fit s (h ∷ cs)) where
+module _ {limit s h : ℕ} {cs : Parts} (e : Evaluable limit s (h ∷ cs)) where
   pub cycle-long : 1 ≤ h
-  cycle-long = positive (fit .no-zero)
+  cycle-long = positive (e .no-zero)
 
   module _ (hook : Hook ℕ) (l : Left h s hook) where
-    pub fit-left : Fit (hook .leaves) cs
-    fit-left = record {
-      good = ltb-true (hook .leaves) (2 ^ 30) (l .good);
-      no-zero = others (fit .no-zero);
-      degrees = omega (arith, fit .degrees);
-      small = omega (arith, fit .small);
+    pub evaluable-left : Evaluable limit (hook .leaves) cs
+    evaluable-left = record {
+      good = l .good;
+      no-zero = behind (e .no-zero);
+      degrees = omega (arith, e .degrees);
+      small = omega (arith, e .small);
     }
 
     pub degree-falls : degree (shapeOf (hook .leaves)) < degree (shapeOf s)
     degree-falls = omega (arith, cycle-long)
 
-  pub walk : Walk (λ t. shapeOf t on cs) s h
-  walk = record {
-    long = cycle-long;
-    below = omega (arith, fit .good);
-    bounded = λ hook l. character-bounded (hook .leaves) cs (fit-left hook l);
-  }
-
-  pub struck : hookSum (λ t. shapeOf t on cs) h s ≡ shapeOf s on (h ∷ cs)
+  pub hook-rule-holds : hookSum (λ t. shapeOf t on cs) h s ≡ shapeOf s on (h ∷ cs)
   unfolding hookSum
-  struck = sym (hook-rule-first h cs (fit .no-zero) s)
+  hook-rule-holds = sym (hook-rule-first h cs (e .no-zero) s)
+
+pub walk : {s h : ℕ} {cs : Parts} → Evaluable largestLimit s (h ∷ cs) → Walk (λ t. shapeOf t on cs) s h
+walk e = record {
+  long = cycle-long e;
+  within = shape-within e;
+  bounded = λ hook l. character-bounded (evaluable-left e hook l);
+}
 
 -- ---- the value
 -- the empty shape on the empty class
-pub value-none : (s : ℕ) → Fit s [] → shapeOf s on [] ≡ pos 1
-value-none s f = empty-on-empty (shapeOf s) [] (rows-partition (digits width s)) refl (f .degrees) refl
+pub value-none : {limit s : ℕ} → Evaluable limit s [] → shapeOf s on [] ≡ pos 1
+value-none {limit} {s} e =
+    empty-on-empty (shapeOf s) [] (rows-partition (digits width s)) refl (e .degrees) refl
 
-pub value-empty : (s : ℕ) → Fit s (classOf 0) → shapeOf s on classOf 0 ≡ pos 1
-value-empty s f =
+pub value-empty : {limit s : ℕ} → Evaluable limit s (classOf 0) → shapeOf s on classOf 0 ≡ pos 1
+value-empty e =
     let none : classOf 0 ≡ [] = parts-none 0 width in
-    rw none (value-none s (rw none at f))
+    rw none (value-none (rw none at e))
 
 -- the longest cycle is struck
-pub record First (s w z : ℕ) : Type 0 where
-  pub bits : z < 32
-  pub fit : Fit s (z ∷ classOf (w * 2 ^ z % 2 ^ 32 % 2 ^ 31))
-  pub same : shapeOf s on classOf w ≡ shapeOf s on (z ∷ classOf (w * 2 ^ z % 2 ^ 32 % 2 ^ 31))
+abbrev others : ℕ → ℕ → ℕ
+others w z = w * 2 ^ z % 2 ^ suc width % 2 ^ width
 
-pub value-first : (s w : ℕ) → w < 2 ^ 31 → Fit s (classOf w) → (w ≡ 0 → ⊥) → First s w (leadingZeros 32 w)
-value-first s w l f more =
-    let struck = strike 31 w (pos-of-ne-zero more) l in
+pub record FirstCycle (s w z : ℕ) : Type 0 where
+  pub bits : z < 32
+  pub evaluable : Evaluable largestLimit s (z ∷ classOf (others w z))
+  pub same : shapeOf s on classOf w ≡ shapeOf s on (z ∷ classOf (others w z))
+
+pub first-cycle : (s w : ℕ) → w < 2 ^ width → Evaluable largestLimit s (classOf w) → (w ≡ 0 → ⊥)
+    → FirstCycle s w (leadingZeros 32 w)
+first-cycle s w l e more =
+    let struck = first-part width w (pos-of-ne-zero more) l in
     record {
       bits = omega (arith, struck .within);
-      fit = rw (struck .reads) at f;
+      evaluable = rw (struck .reads) at e;
       same = ap (λ (cs : Parts). shapeOf s on cs) (struck .reads);
     }

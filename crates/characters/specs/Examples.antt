@@ -2,20 +2,17 @@
 --   on-sevens s c            the opening of s on c, on a page of two words that hold 7
 --   strike cycle outcome     a step on line 0, the latest slip and page handed on
 --   after s c z l n page     accepted: settled z, l lines, n steps, and this page
-use mathlib.Core.Path.{_≡_, refl}
+use mathlib.Core.Path.{_≡_}
 use Rattle.theory.specs.Basics.{List, [], _∷_, replicate, ℕ, ℤ, pos, negsuc}
-use Rattle.theory.specs.Character.{character, _on_}
-use Rattle.theory.specs.Digits.{digits, word}
+use Rattle.theory.specs.Character.{_on_}
 use Rattle.theory.specs.ShapeWord.{shapeWord}
 use Rattle.theory.specs.ClassWord.{classWord}
-use Rattle.theory.specs.Hooks.{hooks, hookWords}
-use Rattle.theory.specs.Bounds.{factorial, S}
-use Rattle.theory.specs.Refusals.{degreeLimit, firstOf, shapeRows, classRows}
-use Rattle.characters.specs.declared.Handed.{Handed}
-use Rattle.characters.specs.Line.{hookLines}
-use Rattle.characters.specs.Sound.{soundLine, sound}
-use Rattle.characters.specs.Opening.{slipOf, handed, opening}
-use Rattle.characters.specs.Step.{nextLines, nextSlip, step}
+use Rattle.theory.specs.Refusals.{firstOf, shapeChecks, classChecks}
+use Rattle.theory.specs.Limits.{degreeLimit}
+use Rattle.characters.specs.Page.{slipOf, handed, Handed}
+use Rattle.characters.specs.Opening.{opening}
+use Rattle.characters.specs.Step.{step}
+pub mod Proved
 
 abbrev on-sevens : List ℕ → List ℕ → Handed × List ℕ
 on-sevens s c = opening degreeLimit (shapeWord s) (classWord c) (7 ∷ 7 ∷ [])
@@ -36,9 +33,9 @@ pub record Examples : Type 0 where
   pub E1 : shapeWord parts-3-2 ≡ 0x2C000000
   pub E2 : shapeWord (16 ∷ []) ≡ 0x3FFFC000
   pub E3 : shapeWord (replicate 16 1) ≡ 0x00004000
-  pub E4 : firstOf (shapeRows degreeLimit 0x3FFFE000) ∷ firstOf (shapeRows degreeLimit 0x40000000) ∷ [] ≡ 2 ∷ 1 ∷ []
+  pub E4 : firstOf (shapeChecks degreeLimit 0x3FFFE000) ∷ firstOf (shapeChecks degreeLimit 0x40000000) ∷ [] ≡ 2 ∷ 1 ∷ []
   pub E5 : classWord (5 ∷ 2 ∷ 2 ∷ 1 ∷ 1 ∷ 1 ∷ []) ≡ 0x05780000
-  pub E6 : firstOf (classRows degreeLimit 0x50000000) ∷ firstOf (classRows degreeLimit 0x00004000) ∷ [] ≡ 3 ∷ 4 ∷ []
+  pub E6 : firstOf (classChecks degreeLimit 0x50000000) ∷ firstOf (classChecks degreeLimit 0x00004000) ∷ [] ≡ 3 ∷ 4 ∷ []
   pub E7 : parts-3-2 on parts-3-2 ≡ pos 1
   pub E8 : parts-3-2 on (4 ∷ 1 ∷ []) ≡ negsuc 0
   pub E9 : parts-3-2 on (5 ∷ []) ≡ pos 0
@@ -55,24 +52,3 @@ pub record Examples : Type 0 where
       ≡ after parts-3-2 parts-3-2 (pos 1) 0 (pos 2) (0 ∷ 0 ∷ [])
   pub E13 : strike 2 (on-sevens parts-2-1 parts-2-1)
       ≡ after parts-2-1 parts-2-1 (pos 0) 0 (pos 1) (0 ∷ 0 ∷ [])
-
-pub examples : Examples
-unfolding character digits word hooks hookWords hookLines factorial S soundLine sound opening nextLines nextSlip step
-examples = record {
-  E1 = refl;
-  E2 = refl;
-  E3 = refl;
-  E4 = refl;
-  E5 = refl;
-  E6 = refl;
-  E7 = refl;
-  E8 = refl;
-  E9 = refl;
-  E10 = refl;
-  E11 = refl;
-  E11-3 = refl;
-  E11-3-2 = refl;
-  E12-2 = refl;
-  E12-2-3 = refl;
-  E13 = refl;
-}

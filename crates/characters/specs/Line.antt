@@ -1,46 +1,34 @@
--- A waiting line (document 01, "Slip and page": (signed shape word) times 2^32 plus (class word)).
---   line minus shape class   the 64-bit word of a line; lineMinus, lineShape and lineClass read it back
---   lineDegree x             the degree of its shape
---   weight x                 1, or -1 where its sign digit is set; signedCharacter x, its weight times its character
---   multiplied a b           a sign with another multiplied in: minus where just one of the two is
---   hookLines cycle x        for each hook, in hook order, a line: its sign multiplied in, its class without one cycle
-use Rattle.theory.specs.Basics.{Bool, not, cond, List, map, ℕ, _+_, _*_, _/_, _%_, _^_, ℤ, pos, negsuc, _*ℤ_}
+-- A waiting line (document 01, "Slip and page"), however it is written down.
+--   Line                 its weight, a whole number; its shape word; its class word
+--   lineDegree l         the degree of its shape
+--   signedCharacter l    its weight times its character
+--   hookLines cycle l    for each hook, in hook order, a line: its sign multiplied in, its class without one such cycle
+use Rattle.theory.specs.Basics.{List, map, ℕ, ℤ, _*ℤ_, signed}
 use Rattle.theory.specs.Partition.{degree, without}
-use Rattle.theory.specs.Character.{_on_}
-use Rattle.theory.specs.Digits.{bit}
 use Rattle.theory.specs.ShapeWord.{shapeOf}
 use Rattle.theory.specs.ClassWord.{classWord, classOf}
-use Rattle.theory.specs.Hooks.{hookWords}
-pub mod Laws
+use Rattle.theory.specs.Character.{_on_}
+use Rattle.theory.specs.Hooks.{Hook, hookWords}
 pub mod Hooks
+pub mod Weights
 
-abbrev pub line : Bool → ℕ → ℕ → ℕ
-line minus shape class = (cond minus (2 ^ 31) 0 + shape) * 2 ^ 32 + class
+pub record Line : Type 0 where
+  pub weight : ℤ
+  pub shape : ℕ
+  pub class : ℕ
 
-abbrev pub lineMinus : ℕ → Bool
-lineMinus x = bit 63 x
+abbrev pub lineDegree : Line → ℕ
+lineDegree l = degree (shapeOf (l .shape))
 
-abbrev pub lineShape : ℕ → ℕ
-lineShape x = x / 2 ^ 32 % 2 ^ 31
+unfoldable pub signedCharacter : Line → ℤ
+signedCharacter l = l .weight *ℤ (shapeOf (l .shape) on classOf (l .class))
 
-abbrev pub lineClass : ℕ → ℕ
-lineClass x = x % 2 ^ 32
+abbrev pub hookLine : ℕ → Line → Hook ℕ → Line
+hookLine cycle l hook = record {
+  weight = signed (hook .minus) (l .weight);
+  shape = hook .leaves;
+  class = classWord (without cycle (classOf (l .class)));
+}
 
-abbrev pub lineDegree : ℕ → ℕ
-lineDegree x = degree (shapeOf (lineShape x))
-
-abbrev pub weight : ℕ → ℤ
-weight x = cond (lineMinus x) (negsuc 0) (pos 1)
-
-unfoldable pub signedCharacter : ℕ → ℤ
-signedCharacter x = weight x *ℤ (shapeOf (lineShape x) on classOf (lineClass x))
-
-abbrev pub multiplied : Bool → Bool → Bool
-multiplied a b = cond a (not b) b
-
-unfoldable pub hookLines : ℕ → ℕ → List ℕ
-hookLines cycle x =
-    map (λ hook. line (multiplied (lineMinus x) (hook .minus)) (hook .leaves) left) (hookWords cycle (lineShape x))
-  where
-    left : ℕ
-    left = classWord (without cycle (classOf (lineClass x)))
+unfoldable pub hookLines : ℕ → Line → List Line
+hookLines cycle l = map (hookLine cycle l) (hookWords cycle (l .shape))

@@ -3,18 +3,17 @@
 --   Call                  a call: its arguments, its answer, and the page as it returned
 --   Run s p calls t q     from slip s and page p the calls lead to slip t and page q
 --   Session ..            an accepted opening of a shape on a class, on the page p, and a run from there to t and q
---   acceptedSteps calls   how many steps were accepted
---   unwatched calls       the calls with the watches struck
---   worth s p             what every step keeps: settled plus the signed waiting characters
+--   acceptedSteps calls   how many steps were accepted; unwatched calls, the calls with the watches struck
+--   worth s lines         what every step keeps: settled plus the signed waiting characters
 use mathlib.Core.Path.{_≡_}
-use Rattle.theory.specs.Basics.{cond, List, [], _∷_, ℕ, _+_, ℤ, _+ℤ_, _=?_}
-use Rattle.characters.specs.declared.Slip.{Slip}
-use Rattle.characters.specs.declared.Handed.{Handed}
+use Rattle.theory.specs.Basics.{cond, List, [], _∷_, ℕ, _+_, ℤ, _+ℤ_, _=?_, sum}
+use Rattle.characters.specs.Page.{Slip, Handed}
 use Rattle.characters.specs.declared.Watched.{Watched}
 use Rattle.words.specs.Answers.{Outcome}
+use Rattle.characters.specs.Line.{Line, signedCharacter}
 use Rattle.characters.specs.Opening.{opening}
 use Rattle.characters.specs.Step.{step}
-use Rattle.characters.specs.Watch.{reads, waitingSum, watch}
+use Rattle.characters.specs.Watch.{reads, watch}
 pub mod Kept
 pub mod Demand3
 pub mod Requests
@@ -52,5 +51,5 @@ unwatched (opened shape class a p ∷ calls) = opened shape class a p ∷ unwatc
 unwatched (stepped line cycle a p ∷ calls) = stepped line cycle a p ∷ unwatched calls
 unwatched (watched kind line a ∷ calls) = unwatched calls
 
-unfoldable pub worth : Slip → List ℕ → ℤ
-worth s p = s .settled +ℤ waitingSum s p
+unfoldable pub worth : Slip → List Line → ℤ
+worth s lines = s .settled +ℤ sum signedCharacter lines

@@ -2,6 +2,7 @@
 // place b a digit counts 2^b.
 ghost use mathlib.Core.Path.{_≡_};
 ghost use Prim.Native.Nat.{_<_, _≤_, _^_};
+ghost use Rattle.theory.specs.Digits.{width};
 ghost use Rattle.theory.specs.Hooks.Marks.{marks as marksOf, markedHook};
 
 // A one at each place where a hook begins: a zero with a one `length` places below it.
@@ -23,7 +24,7 @@ pub fn minus(shape: u32, length: u32, place: u32) -> bool
 
 // The word that the hook leaves: its two digits exchanged, and leading ones shifted out.
 pub fn leaves(shape: u32, length: u32, place: u32) -> u32
-    requires { ⌜ (shape < 2 ^ 31) × (length ≤ place) × (place < 31) ⌝ }
+    requires { ⌜ (shape < 2 ^ width) × (length ≤ place) × (place < 31) ⌝ }
     ensures { λ r. ⌜ r ≡ markedHook length shape place .leaves ⌝ }
 {
     let exchanged = shape + (1 << place) - (1 << (place - length));

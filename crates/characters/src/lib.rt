@@ -4,8 +4,8 @@ ghost use mathlib.Core.Path.{_≡_};
 ghost use Prim.Native.Nat.{_≤_};
 ghost use Rattle.theory.specs.Basics.{replicate};
 ghost use Rattle.theory.specs.ClassWord.{classWord};
-ghost use Rattle.theory.specs.Refusals.{degreeLimit};
-ghost use Rattle.characters.specs.Judgement.{judgedPair};
+ghost use Rattle.theory.specs.Limits.{degreeLimit};
+ghost use Rattle.theory.specs.Bounds.Laws.{largestLimit};
 ghost use Rattle.words.specs.Answers.{Outcome};
 ghost use Rattle.characters.specs.Calls.{characterOf, shapeCharacterDegree, columnInto};
 use words::CountAnswer;
@@ -17,6 +17,7 @@ mod hooks;
 mod lines;
 mod lookup;
 mod page;
+mod pairs;
 pub mod sessions;
 mod soundness;
 mod tables;
@@ -43,62 +44,14 @@ pub enum Watched {
     Refused(u8),
 }
 
-// What the judge of a pair of words finds: why it is refused, or the degree of both.
-struct Judged {
-    refused: u8,
-    degree: u32,
-}
-
-// The judge of a shape word and a class word, in the order 1, 3, 2, 4, 5.
-fn judge(shape: u32, class: u32) -> Judged
-    ensures { λ r. ⌜ r ≡ judgedPair degreeLimit shape class ⌝ }
-{
-    let of_shape = words::shapes::degree(shape);
-    let of_class = words::classes::degree(class);
-    if of_shape.refused == 1 {
-        return Judged {
-            refused: 1,
-            degree: 0,
-        };
-    }
-    if of_class.refused == 3 {
-        return Judged {
-            refused: 3,
-            degree: 0,
-        };
-    }
-    if of_shape.refused != 0 {
-        return Judged {
-            refused: 2,
-            degree: 0,
-        };
-    }
-    if of_class.refused != 0 {
-        return Judged {
-            refused: 4,
-            degree: 0,
-        };
-    }
-    if of_shape.number != of_class.number {
-        return Judged {
-            refused: 5,
-            degree: 0,
-        };
-    }
-    Judged {
-        refused: 0,
-        degree: of_shape.number as u32,
-    }
-}
-
 // The character of a shape word on a class word. Refuses 1, 3, 2, 4, 5.
 pub fn character(shape: u32, class: u32) -> NumberAnswer
     ensures { λ r. ⌜ r ≡ characterOf degreeLimit shape class ⌝ }
 {
-    let judged = judge(shape, class);
-    if judged.refused != 0 {
+    let pair = pairs::common_degree(shape, class);
+    if pair.refused != 0 {
         return NumberAnswer {
-            refused: judged.refused,
+            refused: pair.refused,
             number: 0,
         };
     }
@@ -110,7 +63,7 @@ pub fn character(shape: u32, class: u32) -> NumberAnswer
 
 // The class word of (1^n).
 fn ones(n: u32) -> u32
-    requires { ⌜ n ≤ degreeLimit ⌝ }
+    requires { ⌜ n ≤ largestLimit ⌝ }
     ensures { λ r. ⌜ r ≡ classWord (replicate n 1) ⌝ }
 {
     ((1u32 << n) - 1) << (31 - n)
@@ -153,7 +106,7 @@ pub fn column(class: u32, values: &mut [i64]) -> CountAnswer
             count: 0,
         };
     }
-    let mut parts = [0u8; 16];
+    let mut parts = [0u8; words::LIMIT as usize];
     let cycles = words::classes::parts(class, &mut parts).count;
     columns::write(&parts[..cycles], degree, values);
     CountAnswer { refused: 0, count }

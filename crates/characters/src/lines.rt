@@ -3,22 +3,24 @@
 ghost use mathlib.Core.Path.{_≡_};
 ghost use Prim.Native.Nat.{_+_, _<_, _≤_, _^_};
 ghost use lib.IntN.{_+ℤ_, natAbs};
-ghost use Rattle.theory.specs.Basics.{sum as sumOf};
+ghost use Rattle.theory.specs.Basics.{map, sum as sumOf};
 ghost use Rattle.theory.specs.Basics.Laws.{Each};
-ghost use Rattle.theory.specs.Bounds.{factorial};
-ghost use Rattle.theory.specs.Refusals.{degreeLimit};
+ghost use Rattle.theory.specs.Digits.{bit};
+ghost use Rattle.theory.specs.Limits.{degreeLimit};
+ghost use Rattle.theory.specs.Bounds.Laws.{largestLimit};
 ghost use Rattle.words.specs.Answers.{Outcome};
-ghost use Rattle.characters.specs.Line.{line as lineWord, lineMinus, lineShape, lineClass};
-ghost use Rattle.characters.specs.Line.{lineDegree, signedCharacter, multiplied};
-ghost use Rattle.characters.specs.Line.Laws.{over};
-ghost use Rattle.characters.specs.Sound.Laws.{SoundLine};
-ghost use Rattle.characters.specs.Lines.{soundDegree, struckClass, Strikes, stripped};
+ghost use Rattle.characters.specs.Line.{signedCharacter};
+ghost use Rattle.characters.specs.Page.{lineOf, wordOf};
+ghost use Rattle.characters.specs.Page.Words.{plain};
+ghost use Rattle.characters.specs.Sound.{lineValue};
+ghost use Rattle.characters.specs.Sound.Laws.{SoundLine, values};
+ghost use Rattle.characters.specs.Private.Striking.{soundDegree, classWithout, multiplied, Strikes, stripped};
 use super::evaluation;
 use super::hooks;
-use super::judge;
+use super::pairs;
 
 // What a cycle leaves of a class: whether the class has it, and the class word without it.
-pub struct Struck {
+pub struct WithoutCycle {
     pub found: bool,
     pub class: u32,
 }
@@ -31,20 +33,20 @@ pub struct HookLines {
 
 // Whether the sign is minus.
 pub fn minus(line: u64) -> bool
-    ensures { λ r. ⌜ r ≡ lineMinus line ⌝ }
+    ensures { λ r. ⌜ r ≡ bit 63 line ⌝ }
 {
     (line >> 63) % 2 == 1
 }
 
 // The shape word, without the sign.
 pub fn shape(line: u64) -> u32
-    ensures { λ r. ⌜ r ≡ lineShape line ⌝ }
+    ensures { λ r. ⌜ r ≡ lineOf line .shape ⌝ }
 {
     ((line >> 32) % 0x8000_0000) as u32
 }
 
 pub fn class(line: u64) -> u32
-    ensures { λ r. ⌜ r ≡ lineClass line ⌝ }
+    ensures { λ r. ⌜ r ≡ lineOf line .class ⌝ }
 {
     (line % 0x1_0000_0000) as u32
 }
@@ -52,7 +54,7 @@ pub fn class(line: u64) -> u32
 // A line of this sign, shape word and class word.
 pub fn word(minus: bool, shape: u32, class: u32) -> u64
     requires { ⌜ shape < 2 ^ 31 ⌝ }
-    ensures { λ r. ⌜ r ≡ lineWord minus shape class ⌝ }
+    ensures { λ r. ⌜ r ≡ wordOf (plain minus shape class) ⌝ }
 {
     let plus = shape as u64 * 0x1_0000_0000 + class as u64;
     if minus {
@@ -65,16 +67,16 @@ pub fn word(minus: bool, shape: u32, class: u32) -> u64
 // The degree of a sound line of degree n at most, and 0 of any other word.
 pub fn degree(line: u64, n: u32) -> u32
     requires { ⌜ n ≤ degreeLimit ⌝ }
-    ensures { λ r. ⌜ r ≡ soundDegree n line ⌝ }
+    ensures { λ r. ⌜ r ≡ soundDegree n (lineOf line) ⌝ }
 {
-    let degree = judge(shape(line), class(line)).degree;
+    let degree = pairs::common_degree(shape(line), class(line)).degree;
     if n < degree { 0 } else { degree }
 }
 
 // A class without one cycle: leading zeros give part after part, and what stands behind the cycle moves up.
-pub fn strike(class: u32, cycle: u64) -> Struck
+pub fn strike(class: u32, cycle: u64) -> WithoutCycle
     requires { ⌜ class < 2 ^ 31 ⌝ }
-    ensures { λ r. ⌜ r ≡ struckClass cycle class ⌝ }
+    ensures { λ r. ⌜ r ≡ classWithout cycle class ⌝ }
 {
     let mut rest = class;
     let mut at = 0u32;
@@ -83,7 +85,7 @@ pub fn strike(class: u32, cycle: u64) -> Struck
         let part = one - at;
         let behind = rest - (1u32 << (31 - one));
         if part as u64 == cycle {
-            return Struck {
+            return WithoutCycle {
                 found: true,
                 class: class - rest + (behind << part),
             };
@@ -91,18 +93,18 @@ pub fn strike(class: u32, cycle: u64) -> Struck
         at = one;
         rest = behind;
     }
-    Struck {
+    WithoutCycle {
         found: false,
         class,
     }
 }
 
 // A sum with a line's signed character.
-pub fn added(sum: i64, line: u64) -> i64
-    requires { ⌜ SoundLine degreeLimit line × (natAbs sum + factorial (lineDegree line) < 2 ^ 63) ⌝ }
-    ensures { λ r. ⌜ r ≡ sum +ℤ signedCharacter line ⌝ }
+pub fn add_line(sum: i64, line: u64) -> i64
+    requires { ⌜ SoundLine largestLimit (lineOf line) × (natAbs sum + lineValue (lineOf line) < 2 ^ 63) ⌝ }
+    ensures { λ r. ⌜ r ≡ sum +ℤ signedCharacter (lineOf line) ⌝ }
 {
-    evaluation::added(
+    evaluation::add_signed(
         sum,
         minus(line),
         evaluation::value(shape(line), class(line)),
@@ -111,13 +113,13 @@ pub fn added(sum: i64, line: u64) -> i64
 
 // The sum of the signed characters of lines.
 pub fn sum(lines: &[u64]) -> i64
-    requires { ⌜ Each (SoundLine degreeLimit) (now lines) × (over factorial (now lines) < 2 ^ 63) ⌝ }
-    ensures { λ r. ⌜ r ≡ sumOf signedCharacter (now (lines .entry)) ⌝ }
+    requires { ⌜ Each (SoundLine largestLimit) (map lineOf (now lines)) × (values (map lineOf (now lines)) < 2 ^ 63) ⌝ }
+    ensures { λ r. ⌜ r ≡ sumOf signedCharacter (map lineOf (now (lines .entry))) ⌝ }
 {
     let mut sum = 0i64;
     let mut i = 0;
     while i < lines.len() {
-        sum = added(sum, lines[i]);
+        sum = add_line(sum, lines[i]);
         i += 1;
     }
     sum
@@ -133,8 +135,8 @@ fn product(a: bool, b: bool) -> bool
 // The hook lines of a line that is struck by a cycle, `class` being its class without it: those that wait go to the
 // front of a strip, in hook order; the signs of those that leave the empty shape are summed.
 pub fn strip(line: u64, cycle: u32, class: u32, strip: &mut [u64]) -> HookLines
-    requires { ⌜ Strikes cycle line class (now strip) ⌝ }
-    ensures { λ r. ⌜ Outcome (stripped cycle line (now (strip .entry))) r (now (strip .exit)) ⌝ }
+    requires { ⌜ Strikes largestLimit cycle (lineOf line) class (now strip) ⌝ }
+    ensures { λ r. ⌜ Outcome (stripped cycle (lineOf line) (now (strip .entry))) r (now (strip .exit)) ⌝ }
 {
     let shape = shape(line);
     let minus = minus(line);
@@ -147,7 +149,7 @@ pub fn strip(line: u64, cycle: u32, class: u32, strip: &mut [u64]) -> HookLines
         let sign = product(minus, hooks::minus(shape, cycle, place));
         marks -= 1u32 << place;
         if leaves == 0 {
-            settled = evaluation::added(settled, sign, 1);
+            settled = evaluation::add_signed(settled, sign, 1);
         } else {
             strip[count] = word(sign, leaves, class);
             count += 1;

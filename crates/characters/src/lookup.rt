@@ -1,29 +1,32 @@
 // The places of shape words: a column's table keeps a number for each shape at the place of its word, and no two words
-// have one place. The table of places is lent as a slice: a constant would be made anew at each use.
+// have one place. The displacements are lent as a slice: a constant would be made anew at each use.
 ghost use mathlib.Core.Path.{_≡_};
-ghost use Prim.Native.Nat.{_<_, _^_};
-ghost use Rattle.characters.specs.Places.{places as placeTable};
-ghost use Rattle.characters.specs.Tables.{placeOf, placeCount};
-use super::tables::PLACES;
+ghost use mathlib.Core.Bool.{true};
+ghost use Prim.Native.Nat.{_<_};
+ghost use Rattle.theory.specs.ShapeWord.{goodShape};
+ghost use Rattle.characters.specs.Private.Displacements.{displacementTable};
+ghost use Rattle.characters.specs.Private.Places.{placeOf, placeCount};
+use super::tables::DISPLACEMENTS;
+use super::tables::EIGHT_DIGITS;
 
-pub fn places() -> [u16; 256]
-    ensures { λ r. ⌜ r ≡ placeTable ⌝ }
+pub fn displacements() -> [u16; EIGHT_DIGITS]
+    ensures { λ r. ⌜ r ≡ displacementTable ⌝ }
 {
-    PLACES
+    DISPLACEMENTS
 }
 
-fn wide(x: u16) -> u32
+fn wide(x: u16) -> usize
     ensures { λ r. ⌜ r ≡ x ⌝ }
 {
-    x as u32
+    x as usize
 }
 
 // The place of a shape word.
-pub fn place(places: &[u16], word: u32) -> usize
-    requires { ⌜ (now places ≡ placeTable) × (word < 2 ^ 30) ⌝ }
+pub fn place(displacements: &[u16], word: u32) -> usize
+    requires { ⌜ (now displacements ≡ displacementTable) × (goodShape word ≡ true) ⌝ }
     ensures { λ r. ⌜ (r ≡ placeOf word) × (r < placeCount) ⌝ }
 {
     let high = (word >> 22) as usize;
-    let low = (word >> 14) % 256;
-    (wide(places[high]) + low) as usize
+    let low = (word >> 14) as usize % EIGHT_DIGITS;
+    wide(displacements[high]) + low
 }

@@ -3,7 +3,7 @@ ghost use mathlib.Core.Path.{_≡_};
 ghost use Prim.Native.Nat.{_+_, _<_, _≤_};
 ghost use lib.Seq.{sets};
 ghost use Rattle.theory.specs.Basics.{length, replicate};
-ghost use Rattle.characters.specs.Pages.{Exchanges, exchanged, takenOut};
+ghost use Rattle.characters.specs.Private.Pages.{Exchanges, exchanged, takenOut};
 
 // Every word becomes 0.
 pub fn clear(page: &mut [u64])
@@ -30,7 +30,7 @@ fn take_out(page: &mut [u64], line: usize, lines: usize)
 }
 
 // A strip of lines is put at a place that has room for them.
-fn put(page: &mut [u64], at: usize, strip: &[u64])
+fn write_strip(page: &mut [u64], at: usize, strip: &[u64])
     requires { ⌜ at + length (now strip) ≤ length (now page) ⌝ }
     ensures { λ _. ⌜ now (page .exit) ≡ sets (now (page .entry)) at (now (strip .entry)) ⌝ }
 {
@@ -47,5 +47,5 @@ pub fn exchange(page: &mut [u64], line: usize, lines: usize, strip: &[u64])
     ensures { λ _. ⌜ now (page .exit) ≡ exchanged (now (page .entry)) line lines (now (strip .entry)) ⌝ }
 {
     take_out(page, line, lines);
-    put(page, lines - 1, strip);
+    write_strip(page, lines - 1, strip);
 }

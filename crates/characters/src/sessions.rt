@@ -4,28 +4,32 @@ ghost use mathlib.Core.Path.{_≡_};
 ghost use Prim.Native.Nat.{_+_, _≤_, _<_, _^_};
 ghost use lib.IntN.{pos, _+ℤ_, natAbs};
 ghost use lib.Ieee.{binary64, ofInt, div};
-ghost use Rattle.theory.specs.Refusals.{degreeLimit, firstOf};
+ghost use Rattle.theory.specs.Refusals.{firstOf};
+ghost use Rattle.theory.specs.Limits.{degreeLimit};
 ghost use Rattle.words.specs.Answers.{Outcome};
+ghost use Rattle.characters.specs.Page.{lineOf, slipOf, blank, handed};
+ghost use Rattle.characters.specs.Sound.{pageChecks};
 ghost use Rattle.characters.specs.Sound.Laws.{SoundLine};
-ghost use Rattle.characters.specs.Opening.{slipOf, blank, handed, opening};
+ghost use Rattle.characters.specs.Opening.{opening};
 ghost use Rattle.characters.specs.Step.{step as stepOf};
-ghost use Rattle.characters.specs.Watch.{reads, ratio as ratioOf, watch as watchOf};
-ghost use Rattle.characters.specs.Pages.{pageRows, namedLine, watchRows};
+ghost use Rattle.characters.specs.Watch.{reads, ratio as ratioOf, watchChecks, watch as watchOf};
+ghost use Rattle.characters.specs.Private.ClassLeft.{classLeftOf};
 use super::Handed;
 use super::Slip;
 use super::Watched;
 use super::character_degree;
 use super::evaluation;
-use super::judge;
 use super::lines;
 use super::page;
+use super::pairs;
 use super::soundness;
 
 // The most words of a page.
 const PAGE_LIMIT: usize = 4096;
 
-// What the judge of a line and a cycle finds: why they are refused, or the class word without the cycle.
-struct Named {
+// What is left of the class of a line that is named: why line and cycle are refused, or the class word without the
+// cycle.
+struct ClassLeft {
     refused: u8,
     class: u32,
 }
@@ -51,14 +55,14 @@ fn unopened(number: u8) -> Handed
 pub fn open(shape: u32, class: u32, page: &mut [u64]) -> Handed
     ensures { λ r. ⌜ Outcome (opening degreeLimit shape class (now (page .entry))) r (now (page .exit)) ⌝ }
 {
-    let judged = judge(shape, class);
-    if judged.refused != 0 {
-        return unopened(judged.refused);
+    let pair = pairs::common_degree(shape, class);
+    if pair.refused != 0 {
+        return unopened(pair.refused);
     }
     if PAGE_LIMIT < page.len() {
         return unopened(6);
     }
-    if judged.degree == 0 {
+    if pair.degree == 0 {
         page::clear(page);
         return Handed {
             refused: 0,
@@ -88,9 +92,9 @@ pub fn open(shape: u32, class: u32, page: &mut [u64]) -> Handed
     }
 }
 
-// The judge of a slip and a page, in the order 6, 7.
-fn judge_page(slip: Slip, page: &[u64]) -> u8
-    ensures { λ r. ⌜ r ≡ firstOf (pageRows degreeLimit slip (now (page .entry))) ⌝ }
+// Why a slip and a page are refused, 0 where they are not: 6, then 7.
+fn page_refusal(slip: Slip, page: &[u64]) -> u8
+    ensures { λ r. ⌜ r ≡ firstOf (pageChecks degreeLimit slip (now (page .entry))) ⌝ }
 {
     if PAGE_LIMIT < page.len() {
         return 6;
@@ -101,28 +105,28 @@ fn judge_page(slip: Slip, page: &[u64]) -> u8
     7
 }
 
-// The judge of a line and a cycle that a step names, in the order 6, 7, 8, 9.
-fn judge_named(slip: Slip, page: &[u64], line: usize, cycle: u64) -> Named
-    ensures { λ r. ⌜ r ≡ namedLine degreeLimit slip (now (page .entry)) line cycle ⌝ }
+// The class of a named line without a named cycle. Refuses 6, 7, 8, 9.
+fn class_left(slip: Slip, page: &[u64], line: usize, cycle: u64) -> ClassLeft
+    ensures { λ r. ⌜ r ≡ classLeftOf degreeLimit slip (now (page .entry)) line cycle ⌝ }
 {
-    let refused = judge_page(slip, page);
+    let refused = page_refusal(slip, page);
     if refused != 0 {
-        return Named { refused, class: 0 };
+        return ClassLeft { refused, class: 0 };
     }
     if slip.lines <= line {
-        return Named {
+        return ClassLeft {
             refused: 8,
             class: 0,
         };
     }
-    let struck = lines::strike(lines::class(page[line]), cycle);
-    if struck.found {
-        return Named {
+    let left = lines::strike(lines::class(page[line]), cycle);
+    if left.found {
+        return ClassLeft {
             refused: 0,
-            class: struck.class,
+            class: left.class,
         };
     }
-    Named {
+    ClassLeft {
         refused: 9,
         class: 0,
     }
@@ -136,9 +140,9 @@ fn next_slip(slip: Slip, settled: i64, lines: usize) -> Slip
     Slip {
         shape: slip.shape,
         class: slip.class,
-        settled: evaluation::added(slip.settled, false, settled),
+        settled: evaluation::add_signed(slip.settled, false, settled),
         lines,
-        steps: evaluation::added(slip.steps, false, 1),
+        steps: evaluation::add_signed(slip.steps, false, 1),
     }
 }
 
@@ -147,7 +151,7 @@ fn next_slip(slip: Slip, settled: i64, lines: usize) -> Slip
 pub fn step(slip: Slip, page: &mut [u64], line: usize, cycle: u64) -> Handed
     ensures { λ r. ⌜ Outcome (stepOf degreeLimit slip (now (page .entry)) line cycle) r (now (page .exit)) ⌝ }
 {
-    let named = judge_named(slip, &page[..], line, cycle);
+    let named = class_left(slip, &page[..], line, cycle);
     if named.refused != 0 {
         return Handed {
             refused: named.refused,
@@ -155,7 +159,7 @@ pub fn step(slip: Slip, page: &mut [u64], line: usize, cycle: u64) -> Handed
         };
     }
     // a line of degree 16 at most has 16 hooks at most
-    let mut strip = [0u64; 16];
+    let mut strip = [0u64; words::LIMIT as usize];
     let hooks = lines::strip(page[line], cycle as u32, named.class, &mut strip);
     let waiting = hooks.count;
     let lines = slip.lines;
@@ -170,11 +174,11 @@ pub fn step(slip: Slip, page: &mut [u64], line: usize, cycle: u64) -> Handed
     }
 }
 
-// The judge of a watch, in the order 6, 7, 15, 8; kinds 3 to 5 ignore the line number.
-fn judge_watch(slip: Slip, page: &[u64], kind: u64, line: usize) -> u8
-    ensures { λ r. ⌜ r ≡ firstOf (watchRows degreeLimit slip (now (page .entry)) kind line) ⌝ }
+// Why a watch is refused, 0 where it is not: 6, 7, 15, 8; kinds 3 to 5 ignore the line number.
+fn watch_refusal(slip: Slip, page: &[u64], kind: u64, line: usize) -> u8
+    ensures { λ r. ⌜ r ≡ firstOf (watchChecks degreeLimit slip (now (page .entry)) kind line) ⌝ }
 {
-    let refused = judge_page(slip, page);
+    let refused = page_refusal(slip, page);
     if refused != 0 {
         return refused;
     }
@@ -203,11 +207,11 @@ fn divided(number: i64, by: i64) -> f64
 
 // A line's signed character by the character degree of its shape.
 fn ratio(line: u64) -> f64
-    requires { ⌜ SoundLine degreeLimit line ⌝ }
-    ensures { λ r. ⌜ r ≡ ratioOf line ⌝ }
+    requires { ⌜ SoundLine degreeLimit (lineOf line) ⌝ }
+    ensures { λ r. ⌜ r ≡ ratioOf (lineOf line) ⌝ }
 {
     let degree = character_degree(lines::shape(line));
-    divided(lines::added(0, line), degree.number)
+    divided(lines::add_line(0, line), degree.number)
 }
 
 // What a kind shows: 1 a line's signed character, 2 its ratio, 3 the settled sum, 4 the sum of all signed waiting
@@ -215,13 +219,13 @@ fn ratio(line: u64) -> f64
 pub fn watch(slip: Slip, page: &[u64], kind: u64, line: usize) -> Watched
     ensures { λ r. ⌜ reads r ≡ watchOf degreeLimit slip (now (page .entry)) kind line ⌝ }
 {
-    let refused = judge_watch(slip, page, kind, line);
+    let refused = watch_refusal(slip, page, kind, line);
     if refused != 0 {
         return Watched::Refused(refused);
     }
     let lines = slip.lines;
     match kind {
-        1 => Watched::Whole(lines::added(0, page[line])),
+        1 => Watched::Whole(lines::add_line(0, page[line])),
         2 => Watched::Ratio(ratio(page[line])),
         3 => Watched::Whole(slip.settled),
         4 => Watched::Whole(lines::sum(&page[..lines])),

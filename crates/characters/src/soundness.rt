@@ -3,19 +3,20 @@
 ghost use mathlib.Core.Path.{_≡_};
 ghost use Prim.Native.Nat.{_≤_};
 ghost use lib.IntN.{natAbs};
-ghost use Rattle.theory.specs.Basics.{length, _=?_, every};
+ghost use Rattle.theory.specs.Basics.{map, _=?_, every};
 ghost use Rattle.theory.specs.Bounds.{factorial, S};
-ghost use Rattle.theory.specs.Refusals.{degreeLimit};
+ghost use Rattle.theory.specs.Limits.{degreeLimit};
+ghost use Rattle.characters.specs.Page.{lineOf};
 ghost use Rattle.characters.specs.Sound.{sound as isSound};
-ghost use Rattle.characters.specs.Sound.Budget.{affords as affordsAll};
-ghost use Rattle.characters.specs.Pages.{Tabled, budgetSuffices};
+ghost use Rattle.characters.specs.Sound.Budget.{affords as affordsAll, budgetSuffices};
+ghost use Rattle.characters.specs.Private.Tables.{Tabled};
 use super::Slip;
-use super::judge;
 use super::lines;
+use super::pairs;
 use words::classes::FACTORIALS;
 
 // S(d), the most steps that a line of degree d can take, for the degrees 0 to 16.
-const SPANS: [u64; 17] = [
+const SPANS: [u64; words::DEGREES] = [
     0,
     1,
     3,
@@ -49,8 +50,9 @@ fn size(z: i64) -> u64
 // Whether each line is sound, of degree n at most, and both budgets suffice: each takes its d! from the one and its
 // S(d) from the other. The tables are lent, since a constant would be made anew for each line.
 fn affords(n: u32, value: u64, span: u64, lines: &[u64], factorials: &[u64], spans: &[u64]) -> bool
-    requires { ⌜ (n ≤ degreeLimit) × Tabled factorial (now factorials) × Tabled S (now spans) ⌝ }
-    ensures { λ r. ⌜ r ≡ affordsAll n value span (now (lines .entry)) ⌝ }
+    requires { ⌜ n ≤ degreeLimit ⌝ }
+    requires { ⌜ Tabled degreeLimit factorial (now factorials) × Tabled degreeLimit S (now spans) ⌝ }
+    ensures { λ r. ⌜ r ≡ affordsAll n value span (map lineOf (now (lines .entry))) ⌝ }
 {
     let mut value_left = value;
     let mut span_left = span;
@@ -89,10 +91,10 @@ fn zeros(words: &[u64]) -> bool
     true
 }
 
-// Whether n! suffices for the settled size and S(n) for the steps, both for the lines besides, and other words are 0.
-fn suffices(n: u32, settled: u64, steps: u64, lines: usize, page: &[u64]) -> bool
-    requires { ⌜ (n ≤ degreeLimit) × (lines ≤ length (now page)) ⌝ }
-    ensures { λ r. ⌜ r ≡ budgetSuffices n settled steps lines (now (page .entry)) ⌝ }
+// Whether n! suffices for the settled size and S(n) for the steps, and both for the lines besides.
+fn suffices(n: u32, settled: u64, steps: u64, lines: &[u64]) -> bool
+    requires { ⌜ n ≤ degreeLimit ⌝ }
+    ensures { λ r. ⌜ r ≡ budgetSuffices n settled steps (map lineOf (now (lines .entry))) ⌝ }
 {
     let factorials = FACTORIALS;
     let spans = SPANS;
@@ -104,24 +106,14 @@ fn suffices(n: u32, settled: u64, steps: u64, lines: usize, page: &[u64]) -> boo
     if span < steps {
         return false;
     }
-    if affords(
-        n,
-        value - settled,
-        span - steps,
-        &page[..lines],
-        &factorials,
-        &spans,
-    ) {
-        return zeros(&page[lines..]);
-    }
-    false
+    affords(n, value - settled, span - steps, lines, &factorials, &spans)
 }
 
 // Whether slip and page are sound.
 pub fn sound(slip: Slip, page: &[u64]) -> bool
     ensures { λ r. ⌜ r ≡ isSound degreeLimit slip (now (page .entry)) ⌝ }
 {
-    let asked = judge(slip.shape, slip.class);
+    let asked = pairs::common_degree(slip.shape, slip.class);
     if asked.refused != 0 {
         return false;
     }
@@ -132,11 +124,13 @@ pub fn sound(slip: Slip, page: &[u64]) -> bool
     if slip.steps < 0 {
         return false;
     }
-    suffices(
+    if suffices(
         asked.degree,
         size(slip.settled),
         size(slip.steps),
-        lines,
-        page,
-    )
+        &page[..lines],
+    ) {
+        return zeros(&page[lines..]);
+    }
+    false
 }

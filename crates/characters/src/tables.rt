@@ -1,7 +1,13 @@
 // Made by tools/tables.py; lookup.rt says what the table has, and is proved.
 
-// A shape word t has the place PLACES[t >> 22] + (t >> 14) % 256: no two have one.
-pub const PLACES: [u16; 256] = [
+// Eight digits make numbers below it.
+pub const EIGHT_DIGITS: usize = 256;
+
+// Places are below it.
+pub const PLACE_COUNT: usize = 1120;
+
+// A shape word t has the place DISPLACEMENTS[t >> 22] + (t >> 14) % EIGHT_DIGITS: no two have one.
+pub const DISPLACEMENTS: [u16; EIGHT_DIGITS] = [
     359,
     19,
     28,

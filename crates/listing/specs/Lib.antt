@@ -1,2 +1,3 @@
 -- What the calls of the listing promise.
 pub mod Calls
+pub mod Private

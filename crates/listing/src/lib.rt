@@ -4,15 +4,21 @@ ghost use mathlib.Core.Path.{_≡_};
 ghost use Rattle.theory.specs.Partition.{degree as degreeOf};
 ghost use Rattle.theory.specs.ShapeWord.{shapeOf};
 ghost use Rattle.theory.specs.Listing.{rank as rankOf};
-ghost use Rattle.theory.specs.Refusals.{degreeLimit};
+ghost use Rattle.theory.specs.Limits.{degreeLimit};
 ghost use Rattle.theory.specs.Refusals.Laws.{Within};
-ghost use Rattle.listing.specs.Calls.{shapeWords, wordsWithin, sectionOf};
-ghost use Rattle.listing.specs.Calls.{shapeAt, classAt, shapeRank, classRank};
+ghost use Rattle.listing.specs.Calls.{wordsWithin, sectionOf, shapeAt, classAt, shapeRank, classRank};
+ghost use Rattle.listing.specs.Private.Tables.{shapeWords};
 use tables::COUNTS;
 use tables::STARTS;
 use tables::WORDS;
 
 mod tables;
+
+// How many partitions the degrees 0 to 16 have in all.
+pub const WORD_COUNT: usize = 915;
+
+// How many partitions one degree has at most.
+pub const MOST_PARTITIONS: usize = 231;
 
 // The words of one degree among those of all degrees.
 pub struct SectionAnswer {
@@ -22,7 +28,7 @@ pub struct SectionAnswer {
 }
 
 // The shape words of the degrees 0 to 16, degree by degree, each degree in listing order.
-pub fn shape_words() -> [u32; 915]
+pub fn shape_words() -> [u32; WORD_COUNT]
     ensures { λ r. ⌜ r ≡ wordsWithin degreeLimit ⌝ }
 {
     WORDS
@@ -80,7 +86,7 @@ pub fn class_at(degree: u32, rank: u32) -> words::WordAnswer
     if shape.refused != 0 {
         return shape;
     }
-    let mut parts = [0u8; 16];
+    let mut parts = [0u8; words::LIMIT as usize];
     let written = words::shapes::parts(shape.word, &mut parts);
     let count = written.count;
     words::classes::word(&parts[..count])
@@ -119,7 +125,7 @@ pub fn shape_rank(word: u32) -> words::NumberAnswer
 pub fn class_rank(word: u32) -> words::NumberAnswer
     ensures { λ r. ⌜ r ≡ classRank degreeLimit word ⌝ }
 {
-    let mut parts = [0u8; 16];
+    let mut parts = [0u8; words::LIMIT as usize];
     let written = words::classes::parts(word, &mut parts);
     if written.refused != 0 {
         return words::NumberAnswer {

@@ -1,7 +1,7 @@
 // The tables of the listing. Made by tools/tables.py; lib.rt says what each has, and is proved.
 
 // How many partitions each degree has.
-pub const COUNTS: [usize; 17] = [
+pub const COUNTS: [usize; words::DEGREES] = [
     1,
     1,
     2,
@@ -22,7 +22,7 @@ pub const COUNTS: [usize; 17] = [
 ];
 
 // Where each degree starts in WORDS.
-pub const STARTS: [usize; 17] = [
+pub const STARTS: [usize; words::DEGREES] = [
     0,
     1,
     2,
@@ -43,7 +43,7 @@ pub const STARTS: [usize; 17] = [
 ];
 
 // The shape words, degree by degree, each degree in listing order.
-pub const WORDS: [u32; 915] = [
+pub const WORDS: [u32; super::WORD_COUNT] = [
     0,
     536870912,
     805306368,

@@ -4,12 +4,12 @@ use Prim.Native.Nat.{_≤_}
 use native.Mathlib.Nat.{zero-add}
 use native.Mathlib.Omega.{arith}
 use Rattle.theory.specs.Basics.{ℕ, _+_, length}
-use Rattle.theory.specs.Refusals.{degreeLimit}
+use Rattle.theory.specs.Limits.{degreeLimit}
 use Rattle.words.specs.Answers.{Outcome}
 use Rattle.tabletext.specs.Table.{Text, chartable, chartableInto}
 use Rattle.tabletext.specs.Table.Room.{room, chartable-short}
-use Rattle.tabletext.specs.Writing.{Wrote}
-use Rattle.tabletext.specs.Writing.Laws.{wrote-first}
+use Rattle.tabletext.specs.Private.Writing.{Wrote}
+use Rattle.tabletext.specs.Private.Writing.Laws.{wrote-first}
 
 module _ (input out : Text) (long : length out ≡ room) {text : Text} (e : chartable degreeLimit input ≡ text) where
   pub answer-fits : 0 + length text ≤ length out

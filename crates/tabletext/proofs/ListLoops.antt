@@ -7,11 +7,11 @@ use native.Mathlib.Omega.{arith}
 use lib.ListN.{length-map}
 use lib.Seq.{take-all}
 use Rattle.theory.specs.Basics.{List, [], _++_, map, ℕ, suc, _+_, length, getD, take}
-use Rattle.theory.specs.Basics.Places.{map-at}
+use Rattle.theory.specs.Basics.AtPlace.{map-at}
 use Rattle.tabletext.specs.Table.{Text, commas}
 use Rattle.tabletext.specs.Table.Lists.{separator, commas-next, commas-front}
-use Rattle.tabletext.specs.Writing.{Wrote}
-use Rattle.tabletext.specs.Writing.Laws.{wrote-none, wrote-then, wrote-room, first-room}
+use Rattle.tabletext.specs.Private.Writing.{Wrote}
+use Rattle.tabletext.specs.Private.Writing.Laws.{wrote-none, wrote-then, wrote-room, first-room}
 
 module _ {A : Type 0} (text : A → Text) (xs : List A) (at : ℕ) (before : List ℕ) where
   abbrev pub Reached : ℕ → ℕ → List ℕ → Type 0

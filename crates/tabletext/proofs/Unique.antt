@@ -2,8 +2,8 @@
 -- (`Reads.Post`).
 use mathlib.Core.Path.{_≡_}
 use denote.Ref.{now}
-use Rattle.theory.specs.Refusals.{degreeLimit}
-use Rattle.words.specs.Answers.{one-outcome}
+use Rattle.theory.specs.Limits.{degreeLimit}
+use Rattle.words.specs.Answers.Laws.{one-outcome}
 use Rattle.tabletext.specs.Table.{chartableInto}
 use Rattle.tabletext.proofs.answer.Reads as answer
 

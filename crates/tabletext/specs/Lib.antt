@@ -1,4 +1,3 @@
 -- What the table program writes.
 pub mod Table
-pub mod Writing
-pub mod Reading
+pub mod Private

@@ -15,8 +15,9 @@ use Rattle.theory.specs.Basics.{cond, not, List, [], _∷_, _++_, map, length, 
 use Rattle.theory.specs.Basics.{ℤ, pos, negsuc, natAbs, _=?_, _<?_, keep, joined, downFrom}
 use Rattle.theory.specs.Partition.{Parts}
 use Rattle.theory.specs.ClassData.{classSize}
-use Rattle.theory.specs.Listing.{listing, same, column}
-use Rattle.theory.specs.Refusals.{firstOf, judged, no-12, no-13}
+use Rattle.theory.specs.Listing.{listing, same}
+use Rattle.theory.specs.Column.{column}
+use Rattle.theory.specs.Refusals.{firstOf, refusedOr, no-12, no-13}
 pub mod Decimals
 pub mod Lists
 pub mod Asked
@@ -73,7 +74,7 @@ asked input = keep (λ n. same input (field "degree=" (decimal n))) (0 ∷ downF
 
 unfoldable pub chartable : ℕ → Text → Text
 chartable limit input =
-    judged (firstOf (no-13 (not (length (asked input) =? 0)) ∷ no-12 limit n ∷ []))
+    refusedOr (firstOf (no-13 (not (length (asked input) =? 0)) ∷ no-12 limit n ∷ []))
     (λ k. field "refused=" (decimal k)) (table n (listing n))
   where
     n : ℕ

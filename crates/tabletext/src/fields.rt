@@ -3,7 +3,7 @@ ghost use mathlib.Core.List.{map};
 ghost use Prim.Native.Nat.{_+_, _≤_};
 ghost use Rattle.theory.specs.Basics.{length};
 ghost use Rattle.tabletext.specs.Table.{decimal, integer, commas, textLine, field, classText};
-ghost use Rattle.tabletext.specs.Writing.{Wrote};
+ghost use Rattle.tabletext.specs.Private.Writing.{Wrote};
 use super::lists;
 use super::text;
 
@@ -12,9 +12,9 @@ pub fn number(name: &[u8], n: u64, out: &mut [u8], at: usize) -> usize
     requires { ⌜ at + length (textLine (now name) (decimal n)) ≤ length (now out) ⌝ }
     ensures { λ r. ⌜ Wrote (textLine (now (name .entry)) (decimal n)) at (now (out .entry)) r (now (out .exit)) ⌝ }
 {
-    let end = text::put(name, out, at);
+    let end = text::write_bytes(name, out, at);
     let end = text::decimal(n, out, end);
-    text::put(b"\n", out, end)
+    text::write_bytes(b"\n", out, end)
 }
 
 fn parts(parts: &[u8], out: &mut [u8], at: usize) -> usize
@@ -22,9 +22,9 @@ fn parts(parts: &[u8], out: &mut [u8], at: usize) -> usize
     ensures { λ r. ⌜ Wrote (field "class=" (commas (map decimal (now (parts .entry)))))
         at (now (out .entry)) r (now (out .exit)) ⌝ }
 {
-    let end = text::put(b"class=", out, at);
+    let end = text::write_bytes(b"class=", out, at);
     let end = lists::parts(parts, out, end);
-    text::put(b"\n", out, end)
+    text::write_bytes(b"\n", out, end)
 }
 
 fn values(values: &[i64], out: &mut [u8], at: usize) -> usize
@@ -32,9 +32,9 @@ fn values(values: &[i64], out: &mut [u8], at: usize) -> usize
     ensures { λ r. ⌜ Wrote (field "values=" (commas (map integer (now (values .entry)))))
         at (now (out .entry)) r (now (out .exit)) ⌝ }
 {
-    let end = text::put(b"values=", out, at);
+    let end = text::write_bytes(b"values=", out, at);
     let end = lists::values(values, out, end);
-    text::put(b"\n", out, end)
+    text::write_bytes(b"\n", out, end)
 }
 
 // The lines of a class.

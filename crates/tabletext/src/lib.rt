@@ -1,5 +1,5 @@
 // The text that the table program writes for any input (document 01, "Table program"), as bytes.
-ghost use Rattle.theory.specs.Refusals.{degreeLimit};
+ghost use Rattle.theory.specs.Limits.{degreeLimit};
 ghost use Rattle.words.specs.Answers.{Outcome};
 ghost use Rattle.tabletext.specs.Table.{chartableInto};
 

@@ -4,7 +4,7 @@ ghost use Prim.Native.Nat.{_+_, _≤_};
 ghost use Rattle.theory.specs.Basics.{length};
 ghost use Rattle.tabletext.specs.Table.{decimal, integer, commas};
 ghost use Rattle.tabletext.specs.Table.Lists.{separator as separatorText};
-ghost use Rattle.tabletext.specs.Writing.{Wrote};
+ghost use Rattle.tabletext.specs.Private.Writing.{Wrote};
 use super::text;
 
 // What stands in front of element i: a comma, but nothing in front of the first.
@@ -15,7 +15,7 @@ fn separator(i: usize, out: &mut [u8], at: usize) -> usize
     if i == 0 {
         return at;
     }
-    text::put(b",", out, at)
+    text::write_bytes(b",", out, at)
 }
 
 pub fn parts(parts: &[u8], out: &mut [u8], at: usize) -> usize

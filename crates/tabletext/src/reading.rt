@@ -2,7 +2,7 @@
 ghost use mathlib.Core.Path.{_≡_};
 ghost use Rattle.theory.specs.Basics.{getD};
 ghost use Rattle.tabletext.specs.Table.{asked as askedNumbers};
-ghost use Rattle.tabletext.specs.Reading.{none, digit as digitOf, candidate as candidateOf};
+ghost use Rattle.tabletext.specs.Private.Reading.{none, digit as digitOf, candidate as candidateOf};
 use super::fields;
 
 // What is read where the input asks for no number of one or two digits.

@@ -4,20 +4,17 @@ ghost use mathlib.Core.List.{[]};
 ghost use Prim.Native.Nat.{_+_, _≤_, _<_};
 ghost use Rattle.theory.specs.Basics.{length, getD, joined};
 ghost use Rattle.theory.specs.Listing.{listing};
-ghost use Rattle.theory.specs.Refusals.{degreeLimit};
+ghost use Rattle.theory.specs.Limits.{degreeLimit};
 ghost use Rattle.tabletext.specs.Table.{classLines, table as tableText};
-ghost use Rattle.tabletext.specs.Writing.{Wrote};
+ghost use Rattle.tabletext.specs.Private.Writing.{Wrote};
 use super::fields;
 
-// The number of partitions of a degree: so many values has a column.
+// The number of partitions of a degree.
 fn count(degree: u32) -> u32
     requires { ⌜ degree ≤ degreeLimit ⌝ }
     ensures { λ r. ⌜ r ≡ length (listing degree) ⌝ }
 {
-    let first = listing::class_at(degree, 0);
-    let mut values = [0i64; 231];
-    let column = characters::column(first.word, &mut values);
-    column.count as u32
+    listing::section(degree).count as u32
 }
 
 // The lines of the class of a rank.
@@ -28,10 +25,10 @@ fn class(degree: u32, rank: u32, out: &mut [u8], at: usize) -> usize
     ensures { λ r. ⌜ Wrote (classLines (getD (listing degree) rank [])) at (now (out .entry)) r (now (out .exit)) ⌝ }
 {
     let class = listing::class_at(degree, rank);
-    let mut parts = [0u8; 16];
+    let mut parts = [0u8; words::LIMIT as usize];
     let written = words::classes::parts(class.word, &mut parts);
     let size = words::classes::size(class.word);
-    let mut values = [0i64; 231];
+    let mut values = [0i64; listing::MOST_PARTITIONS];
     let column = characters::column(class.word, &mut values);
     let count = written.count;
     let length = column.count;

@@ -4,9 +4,9 @@ ghost use Prim.Native.Nat.{_+_, _≤_};
 ghost use mathlib.Core.Path.{_≡_};
 ghost use Rattle.theory.specs.Basics.{length, natAbs};
 ghost use Rattle.tabletext.specs.Table.{decimal as decimalText, minusSign as minusText, integer as integerText};
-ghost use Rattle.tabletext.specs.Writing.{Wrote};
+ghost use Rattle.tabletext.specs.Private.Writing.{Wrote};
 
-pub fn put(text: &[u8], out: &mut [u8], at: usize) -> usize
+pub fn write_bytes(text: &[u8], out: &mut [u8], at: usize) -> usize
     requires { ⌜ at + length (now text) ≤ length (now out) ⌝ }
     ensures { λ r. ⌜ Wrote (now (text .entry)) at (now (out .entry)) r (now (out .exit)) ⌝ }
 {
@@ -27,7 +27,7 @@ pub fn decimal(n: u64, out: &mut [u8], at: usize) -> usize
 {
     let mut digits = [0u8; 20];
     let count = io::decimal(n, &mut digits);
-    put(&digits[..count], out, at)
+    write_bytes(&digits[..count], out, at)
 }
 
 // A minus where a number is negative.
@@ -36,12 +36,12 @@ fn minus(z: i64, out: &mut [u8], at: usize) -> usize
     ensures { λ r. ⌜ Wrote (minusText z) at (now (out .entry)) r (now (out .exit)) ⌝ }
 {
     if z < 0 {
-        return put(b"-", out, at);
+        return write_bytes(b"-", out, at);
     }
     at
 }
 
-fn size(z: i64) -> u64
+fn magnitude(z: i64) -> u64
     ensures { λ r. ⌜ r ≡ natAbs z ⌝ }
 {
     if z < 0 { (!z) as u64 + 1 } else { z as u64 }
@@ -53,5 +53,5 @@ pub fn integer(z: i64, out: &mut [u8], at: usize) -> usize
     ensures { λ r. ⌜ Wrote (integerText z) at (now (out .entry)) r (now (out .exit)) ⌝ }
 {
     let end = minus(z, out, at);
-    decimal(size(z), out, end)
+    decimal(magnitude(z), out, end)
 }

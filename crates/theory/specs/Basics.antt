@@ -1,22 +1,21 @@
 -- The few words that every file uses beside the library's.
---   m =? n, m <? n, m ≤? n   tests of two numbers, true or false
---   odd n                    n leaves 1 when it is halved
+--   m =? n, m <? n, m ≤? n   tests of two numbers, true or false; odd n, whether n leaves 1 when it is halved
 --   keep test xs             the elements that pass the test, in their order; count, how many; every, whether all do
 --   joined f xs              the lists f x, for each x of xs, one after the other
---   total ns, product ns     of natural numbers; sum f xs, of f over xs, in ℤ
---   downFrom n               n, .., 1
+--   total ns, product ns     of natural numbers; sum f xs, of f over xs, in ℤ; signed minus z, -z if minus and else z
+--   downFrom n               n, .., 1; upFrom i n, the n numbers i, i + 1, ..
 -- Of the library: cond b x y is x if b is true and else y; getD xs i d is element i of xs, from 0, and d past its end;
--- m - n is 0 where n is above m; m / n and m % n are quotient and remainder; negsuc n is -(n + 1); natAbs z is |z|.
+-- set xs i x is xs with x in its place; m - n is 0 where n is above m; negsuc n is -(n + 1); natAbs z is |z|.
 pub use mathlib.Core.Bool.{Bool, true, false, cond, not, _&&_}
 pub use mathlib.Core.List.{List, [], _∷_, _++_, map, foldr, reverse}
 pub use Prim.Native.Nat.{ℕ, zero, suc, _+_, _-_, _*_, _/_, _%_, _^_}
-pub use lib.ListN.{length, getD, take, drop, replicate}
+pub use lib.ListN.{length, getD, set, take, drop, replicate}
 pub use lib.IntN.{ℤ, pos, negsuc, _+ℤ_, _-ℤ_, _*ℤ_, negℤ, natAbs}
 use lib.Dec.{eqb, ltb, leb}
 pub mod Laws
-pub mod Places
+pub mod AtPlace
+pub mod Integers
 pub mod Keep
-pub mod Joined
 
 infix 40 _=?_ _<?_ _≤?_
 abbrev pub _=?_ : ℕ → ℕ → Bool
@@ -56,6 +55,14 @@ abbrev pub sum : {A : Type 0} → (A → ℤ) → List A → ℤ
 sum f [] = pos 0
 sum f (x ∷ xs) = f x +ℤ sum f xs
 
+abbrev pub signed : Bool → ℤ → ℤ
+signed true z = negℤ z
+signed false z = z
+
 abbrev pub downFrom : ℕ → List ℕ
 downFrom zero = []
 downFrom (suc n) = suc n ∷ downFrom n
+
+abbrev pub upFrom : ℕ → ℕ → List ℕ
+upFrom i zero = []
+upFrom i (suc n) = i ∷ upFrom (suc i) n

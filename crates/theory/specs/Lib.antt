@@ -1,13 +1,15 @@
 -- Document 01, read from here: each file says which paragraph it states, and its folder has the laws.
 pub mod Basics
+pub mod Limits
 pub mod Partition
 pub mod Digits
 pub mod ShapeWord
 pub mod ClassWord
-pub mod Hooks
+pub mod Bounds
+pub mod ClassData
 pub mod Character
 pub mod Rules
-pub mod ClassData
+pub mod Hooks
 pub mod Listing
-pub mod Bounds
+pub mod Column
 pub mod Refusals

@@ -4,19 +4,16 @@
 --   Before l m            decreasing lexicographic order: at the first place where they differ, l has the larger part
 --   rank ps               how many stand before ps in the listing of its degree; rankIn ps list, in any list
 --   partitionCounts       how many partitions the degrees 0 to 16 have, a list of constants
---   column class          the values of a class for all shapes of its degree, in listing order
 --   wordsBelow m          the words of all shapes of degrees below m, degree by degree, each degree in listing order
 --   start n               where the words of degree n start there, for any m above n
 use Prim.Native.Nat.{_<_}
 use Rattle.theory.specs.Basics.{Bool, true, false, cond, _&&_, List, [], _∷_, _++_, map, length}
-use Rattle.theory.specs.Basics.{ℕ, zero, suc, _-_, ℤ, _=?_, _≤?_, keep, joined, downFrom}
+use Rattle.theory.specs.Basics.{ℕ, zero, suc, _-_, _=?_, _≤?_, keep, joined, downFrom}
 use Rattle.theory.specs.Partition.{Parts, degree}
 use Rattle.theory.specs.ShapeWord.{shapeWord}
-use Rattle.theory.specs.Character.{_on_}
 pub mod Laws
 pub mod Order
 pub mod Ranks
-pub mod Columns
 pub mod Words
 pub mod Sizes
 
@@ -51,9 +48,6 @@ rankIn ps (q ∷ list) = cond (same ps q) 0 (suc (rankIn ps list))
 
 unfoldable pub rank : Parts → ℕ
 rank ps = rankIn ps (listing (degree ps))
-
-unfoldable pub column : Parts → List ℤ
-column class = map (_on class) (listing (degree class))
 
 unfoldable pub wordsBelow : ℕ → List ℕ
 wordsBelow zero = []

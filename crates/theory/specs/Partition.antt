@@ -6,16 +6,15 @@
 --   times p ps       how often p occurs among the parts
 --   without m ps     the parts with one m taken out, if there is one
 --   transposed ps    rows and columns interchanged: column j is as long as there are rows of length j or more
-use Rattle.theory.specs.Basics.{Bool, true, cond, _&&_, List, [], _∷_, map, reverse, ℕ}
-use Rattle.theory.specs.Basics.{_=?_, _<?_, _≤?_, count, total, downFrom}
+use Rattle.theory.specs.Basics.{Bool, true, cond, _&&_, List, [], _∷_, map, ℕ}
+use Rattle.theory.specs.Basics.{getD, _=?_, _<?_, _≤?_, count, total, upFrom}
 pub mod Laws
 
 abbrev pub Parts : Type 0
 Parts = List ℕ
 
 abbrev pub first : Parts → ℕ
-first [] = 0
-first (p ∷ ps) = p
+first ps = getD ps 0 0
 
 abbrev pub isPartition : Parts → Bool
 isPartition [] = true
@@ -32,4 +31,4 @@ without m [] = []
 without m (p ∷ ps) = cond (p =? m) ps (p ∷ without m ps)
 
 abbrev pub transposed : Parts → Parts
-transposed ps = map (λ j. count (j ≤?_) ps) (reverse (downFrom (first ps)))
+transposed ps = map (λ j. count (j ≤?_) ps) (upFrom 1 (first ps))

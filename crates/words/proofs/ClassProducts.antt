@@ -9,25 +9,25 @@ use Rattle.theory.specs.Basics.{ℕ, _+_, _-_, _*_, _%_, _^_}
 use Rattle.theory.specs.Partition.{degree}
 use Rattle.theory.specs.ClassData.Laws.{factor-room}
 use Rattle.theory.specs.Bounds.{factorial}
-use Rattle.theory.specs.Refusals.{degreeLimit}
-use Rattle.words.proofs.ClassLoops.{partsLeft, Turn, turn}
+use Rattle.theory.specs.Bounds.Laws.{largestLimit}
+use Rattle.words.proofs.ClassLoops.{partsLeft, NextPart, next-part}
 use Rattle.words.proofs.Factorials.{factorial-fits}
 
 pub record Multiplying (at rest product : ℕ) : Type 0 where
   pub left : rest < 2 ^ (31 - at)
-  pub small : at + degree (partsLeft at rest) ≤ degreeLimit
+  pub small : at + degree (partsLeft at rest) ≤ largestLimit
   pub bound : product ≤ factorial at
 
 pub record Factor (at rest product : ℕ) : Type 0 where
-  pub next : Turn at rest
-  pub small : leadingZeros 32 rest ≤ degreeLimit
+  pub next : NextPart at rest
+  pub small : leadingZeros 32 rest ≤ largestLimit
   pub fits : (k : ℕ) → k ≤ leadingZeros 32 rest → product * k < 2 ^ 63
   pub again : (k x : ℕ) → k ≤ leadingZeros 32 rest → x ≡ product * k
       → Multiplying (leadingZeros 32 rest) (rest - 1 * 2 ^ (31 - leadingZeros 32 rest) % 2 ^ 32) x
 
 pub factor : {at rest product : ℕ} → (rest ≡ 0 → ⊥) → Multiplying at rest product → Factor at rest product
 factor {at} {rest} {product} n m =
-    let t = turn at rest n (m .left) in
+    let t = next-part at rest n (m .left) in
     let e = ap degree (t .reads) in
     let z : ℕ = leadingZeros 32 rest in
     let grown : (k : ℕ) → k ≤ z → product * k ≤ factorial z =

@@ -7,7 +7,8 @@ use native.Mathlib.Numerals.{add-one}
 use native.Mathlib.Omega.{arith}
 use lib.ListN.{set, length-set}
 use lib.Seq.{sets, sets-eq}
-use Rattle.theory.specs.Basics.{List, [], _∷_, _++_, ℕ, _+_, length, drop}
+use Rattle.theory.specs.Basics.{List, [], _∷_, ℕ, _+_, length}
+use Rattle.words.specs.Answers.{atFront}
 
 module _ {A : Type 0} (xs lent : List A) where
   pub record Putting (column : List A) (i : ℕ) (left : List A) : Type 0 where
@@ -27,6 +28,6 @@ module _ {A : Type 0} (xs lent : List A) where
   }
 
   pub put-all : {column left : List A} {i : ℕ} → length xs ≤ length lent → Putting column i left → left ≡ []
-      → column ≡ xs ++ drop (length xs) lent
+      → column ≡ atFront xs lent
   put-all {column} {i = i} l p e =
       sym (ap (sets column i) e) ∙ p .promised ∙ sets-eq xs lent 0 (rw zero-add l) ∙ rw zero-add

@@ -1,5 +1,6 @@
 pub mod Answers
 pub mod Callers
+pub mod Measures
 pub mod Factorials
 pub mod PartLists
 pub mod Columns

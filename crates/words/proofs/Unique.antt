@@ -1,8 +1,8 @@
 -- No second outcome meets a contract. Each theorem is of the contract itself, as Rattle reads it (`Reads.Post`).
 use mathlib.Core.Path.{_≡_, sym, _∙_}
 use denote.Ref.{now}
-use Rattle.theory.specs.Refusals.{degreeLimit}
-use Rattle.words.specs.Answers.{one-outcome}
+use Rattle.theory.specs.Limits.{degreeLimit}
+use Rattle.words.specs.Answers.Laws.{one-outcome}
 use Rattle.words.specs.Calls.{shapePartsInto, classPartsInto}
 use Rattle.words.proofs.shapes.word.Reads as shape-word
 use Rattle.words.proofs.shapes.parts.Reads as shape-parts

@@ -5,41 +5,38 @@ use Rattle.theory.specs.Partition.{Parts, degree}
 use Rattle.theory.specs.ShapeWord.{shapeWord, shapeOf, conjugateWord}
 use Rattle.theory.specs.ClassWord.{classWord, classOf}
 use Rattle.theory.specs.ClassData.{classSign, classSize, period}
-use Rattle.theory.specs.Refusals.{shapeRows, classRows, shapeListRows, classListRows}
-use Rattle.words.specs.declared.WordAnswer.{WordAnswer}
-use Rattle.words.specs.declared.NumberAnswer.{NumberAnswer}
-use Rattle.words.specs.declared.CountAnswer.{CountAnswer}
-use Rattle.words.specs.Answers.{worded, numbered, written}
+use Rattle.theory.specs.Refusals.{shapeChecks, classChecks, shapeListChecks, classListChecks, no-14}
+use Rattle.words.specs.Answers.{worded, numbered, written, WordAnswer, NumberAnswer, CountAnswer}
 
 module _ (limit : ℕ) where
   -- ---- shapes
   unfoldable pub shapeWordFrom : Parts → WordAnswer
-  shapeWordFrom ps = worded (shapeListRows limit ps) (shapeWord ps)
+  shapeWordFrom ps = worded (shapeListChecks limit ps) (shapeWord ps)
 
   unfoldable pub shapePartsInto : ℕ → Parts → CountAnswer × Parts
-  shapePartsInto w column = written (shapeRows limit w) (shapeOf w) column
+  shapePartsInto w column = written (shapeChecks limit w) no-14 (shapeOf w) column
 
   unfoldable pub shapeDegree : ℕ → NumberAnswer
-  shapeDegree w = numbered (shapeRows limit w) (pos (degree (shapeOf w)))
+  shapeDegree w = numbered (shapeChecks limit w) (pos (degree (shapeOf w)))
 
   unfoldable pub conjugateShape : ℕ → WordAnswer
-  conjugateShape w = worded (shapeRows limit w) (conjugateWord w)
+  conjugateShape w = worded (shapeChecks limit w) (conjugateWord w)
 
   -- ---- classes
   unfoldable pub classWordFrom : Parts → WordAnswer
-  classWordFrom ps = worded (classListRows limit ps) (classWord ps)
+  classWordFrom ps = worded (classListChecks limit ps) (classWord ps)
 
   unfoldable pub classPartsInto : ℕ → Parts → CountAnswer × Parts
-  classPartsInto w column = written (classRows limit w) (classOf w) column
+  classPartsInto w column = written (classChecks limit w) no-14 (classOf w) column
 
   unfoldable pub classDegree : ℕ → NumberAnswer
-  classDegree w = numbered (classRows limit w) (pos (degree (classOf w)))
+  classDegree w = numbered (classChecks limit w) (pos (degree (classOf w)))
 
   unfoldable pub signOfClass : ℕ → NumberAnswer
-  signOfClass w = numbered (classRows limit w) (classSign (classOf w))
+  signOfClass w = numbered (classChecks limit w) (classSign (classOf w))
 
   unfoldable pub sizeOfClass : ℕ → NumberAnswer
-  sizeOfClass w = numbered (classRows limit w) (pos (classSize (classOf w)))
+  sizeOfClass w = numbered (classChecks limit w) (pos (classSize (classOf w)))
 
   unfoldable pub periodOfClass : ℕ → NumberAnswer
-  periodOfClass w = numbered (classRows limit w) (pos (period (classOf w)))
+  periodOfClass w = numbered (classChecks limit w) (pos (period (classOf w)))

@@ -1,4 +1,4 @@
 -- What the calls on one partition promise.
 pub mod Answers
-pub mod Reading
 pub mod Calls
+pub mod Private

@@ -1,28 +1,31 @@
 // Class words (document 01, "Class word"), and what a class tells.
 ghost use mathlib.Core.Path.{_≡_};
-ghost use mathlib.Core.Bool.{true};
-ghost use mathlib.Core.List.{_++_};
 ghost use Prim.Native.Nat.{_<_, _≤_, _^_};
-ghost use Rattle.theory.specs.Basics.{length, drop};
-ghost use Rattle.theory.specs.Partition.{isPartition, degree};
+ghost use Rattle.theory.specs.Basics.{length};
+ghost use Rattle.theory.specs.Partition.{degree};
 ghost use Rattle.theory.specs.ClassWord.{classWord, classOf};
 ghost use Rattle.theory.specs.ClassData.{classDivisor, period};
-ghost use Rattle.theory.specs.Refusals.{degreeLimit, classRows};
-ghost use Rattle.words.specs.Answers.{Outcome};
-ghost use Rattle.words.specs.Reading.{seen};
+ghost use Rattle.theory.specs.Limits.{degreeLimit};
+ghost use Rattle.theory.specs.Bounds.Laws.{largestLimit};
+ghost use Rattle.theory.specs.Refusals.{classChecks};
+ghost use Rattle.theory.specs.Refusals.Laws.{WithinClass};
+ghost use Rattle.words.specs.Answers.{Outcome, atFront};
+ghost use Rattle.words.specs.Private.Reading.{measured, ListWithin};
 ghost use Rattle.words.specs.Calls.{classWordFrom, classPartsInto, classDegree};
 ghost use Rattle.words.specs.Calls.{signOfClass, sizeOfClass, periodOfClass};
 use super::CountAnswer;
+use super::DEGREES;
 use super::LIMIT;
+use super::Measure;
 use super::NumberAnswer;
-use super::Seen;
 use super::WordAnswer;
+use super::count_within;
 use super::given;
 use super::lists;
 use super::refused;
 
-// n! for the degrees 0 to 16.
-pub const FACTORIALS: [u64; 17] = [
+// n! of each degree.
+pub const FACTORIALS: [u64; DEGREES] = [
     1,
     1,
     2,
@@ -44,7 +47,7 @@ pub const FACTORIALS: [u64; 17] = [
 
 // The class word of a partition within the limit.
 fn bits(parts: &[u8]) -> u32
-    requires { ⌜ (isPartition (now parts) ≡ true) × (degree (now parts) ≤ degreeLimit) ⌝ }
+    requires { ⌜ ListWithin largestLimit (now parts) ⌝ }
     ensures { λ r. ⌜ r ≡ classWord (now (parts .entry)) ⌝ }
 {
     let mut left = 31u32;
@@ -84,11 +87,11 @@ fn last_one(word: u32) -> u32
 }
 
 // The one reader of class words: leading zeros give the next part, again and again.
-fn read(word: u32) -> Seen
-    ensures { λ r. ⌜ r ≡ seen (classRows degreeLimit word) (classOf word) ⌝ }
+fn read(word: u32) -> Measure
+    ensures { λ r. ⌜ r ≡ measured (classChecks degreeLimit word) (classOf word) ⌝ }
 {
     if 0x8000_0000 <= word {
-        return Seen {
+        return Measure {
             refused: 3,
             degree: 0,
             count: 0,
@@ -102,26 +105,26 @@ fn read(word: u32) -> Seen
         let one = u32::leading_zeros(rest);
         let part = one - at;
         if last < part {
-            return Seen {
+            return Measure {
                 refused: 3,
                 degree: 0,
                 count: 0,
             };
         }
         last = part;
-        at = one;
         count += 1;
+        at = one;
         rest -= 1u32 << (31 - one);
     }
     let degree = last_one(word);
     if LIMIT < degree {
-        return Seen {
+        return Measure {
             refused: 4,
             degree: 0,
             count: 0,
         };
     }
-    Seen {
+    Measure {
         refused: 0,
         degree,
         count,
@@ -129,18 +132,19 @@ fn read(word: u32) -> Seen
 }
 
 // The parts of a word to the front of a column that has room.
-fn put(word: u32, column: &mut [u8])
+fn write_parts(word: u32, column: &mut [u8])
     requires { ⌜ (word < 2 ^ 31) × (length (classOf word) ≤ length (now column)) ⌝ }
-    ensures { λ _. ⌜ now (column .exit) ≡ classOf word ++ drop (length (classOf word)) (now (column .entry)) ⌝ }
+    ensures { λ _. ⌜ now (column .exit) ≡ atFront (classOf word) (now (column .entry)) ⌝ }
 {
     let mut rest = word;
     let mut at = 0u32;
     let mut i = 0;
     while rest != 0 {
         let one = u32::leading_zeros(rest);
-        column[i] = (one - at) as u8;
-        at = one;
+        let part = one - at;
+        column[i] = part as u8;
         i += 1;
+        at = one;
         rest -= 1u32 << (31 - one);
     }
 }
@@ -149,33 +153,23 @@ fn put(word: u32, column: &mut [u8])
 pub fn parts(word: u32, column: &mut [u8]) -> CountAnswer
     ensures { λ r. ⌜ Outcome (classPartsInto degreeLimit word (now (column .entry))) r (now (column .exit)) ⌝ }
 {
-    let seen = read(word);
-    if seen.refused != 0 {
-        return CountAnswer {
-            refused: seen.refused,
-            count: 0,
-        };
+    let answer = count_within(read(word), column.len());
+    if answer.refused != 0 {
+        return answer;
     }
-    let count = seen.count as usize;
-    if column.len() < count {
-        return CountAnswer {
-            refused: 14,
-            count: 0,
-        };
-    }
-    put(word, column);
-    CountAnswer { refused: 0, count }
+    write_parts(word, column);
+    answer
 }
 
 // The degree n of a class word. Refuses 3, then 4.
 pub fn degree(word: u32) -> NumberAnswer
     ensures { λ r. ⌜ r ≡ classDegree degreeLimit word ⌝ }
 {
-    let seen = read(word);
-    if seen.refused != 0 {
-        return refused(seen.refused);
+    let measure = read(word);
+    if measure.refused != 0 {
+        return refused(measure.refused);
     }
-    given(seen.degree as u64)
+    given(measure.degree as u64)
 }
 
 // The sign of a class: a part p is p - 1 exchanges, so it is minus when the degree less the number of parts is odd.
@@ -183,11 +177,11 @@ pub fn degree(word: u32) -> NumberAnswer
 pub fn sign(word: u32) -> NumberAnswer
     ensures { λ r. ⌜ r ≡ signOfClass degreeLimit word ⌝ }
 {
-    let seen = read(word);
-    if seen.refused != 0 {
-        return refused(seen.refused);
+    let measure = read(word);
+    if measure.refused != 0 {
+        return refused(measure.refused);
     }
-    if (seen.degree - seen.count) % 2 == 1 {
+    if (measure.degree - measure.count) % 2 == 1 {
         return NumberAnswer {
             refused: 0,
             number: -1,
@@ -198,7 +192,7 @@ pub fn sign(word: u32) -> NumberAnswer
 
 // The number by which n! is divided: each part, times how often it has occurred so far.
 fn divisor(word: u32) -> u64
-    requires { ⌜ (word < 2 ^ 31) × (isPartition (classOf word) ≡ true) × (degree (classOf word) ≤ degreeLimit) ⌝ }
+    requires { ⌜ WithinClass largestLimit word ⌝ }
     ensures { λ r. ⌜ r ≡ classDivisor (classOf word) ⌝ }
 {
     let mut rest = word;
@@ -226,17 +220,17 @@ fn divisor(word: u32) -> u64
 pub fn size(word: u32) -> NumberAnswer
     ensures { λ r. ⌜ r ≡ sizeOfClass degreeLimit word ⌝ }
 {
-    let seen = read(word);
-    if seen.refused != 0 {
-        return refused(seen.refused);
+    let measure = read(word);
+    if measure.refused != 0 {
+        return refused(measure.refused);
     }
-    let degree = seen.degree as usize;
+    let degree = measure.degree as usize;
     given(FACTORIALS[degree] / divisor(word))
 }
 
 // The product of the different parts of a class.
 fn product_of_different(word: u32) -> u64
-    requires { ⌜ (word < 2 ^ 31) × (isPartition (classOf word) ≡ true) × (degree (classOf word) ≤ degreeLimit) ⌝ }
+    requires { ⌜ WithinClass largestLimit word ⌝ }
     ensures { λ r. ⌜ r ≡ period (classOf word) ⌝ }
 {
     let mut rest = word;
@@ -260,9 +254,9 @@ fn product_of_different(word: u32) -> u64
 pub fn period(word: u32) -> NumberAnswer
     ensures { λ r. ⌜ r ≡ periodOfClass degreeLimit word ⌝ }
 {
-    let seen = read(word);
-    if seen.refused != 0 {
-        return refused(seen.refused);
+    let measure = read(word);
+    if measure.refused != 0 {
+        return refused(measure.refused);
     }
     given(product_of_different(word))
 }

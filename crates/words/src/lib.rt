@@ -5,6 +5,7 @@ ghost use mathlib.Core.Path.{_≡_};
 ghost use Prim.Native.Nat.{_<_, _^_};
 ghost use Rattle.theory.specs.Basics.{pos};
 ghost use Rattle.words.specs.Answers.{numberAnswer};
+ghost use Rattle.words.specs.Private.Reading.{countWithin};
 
 pub mod classes;
 mod lists;
@@ -27,7 +28,7 @@ pub struct CountAnswer {
 }
 
 // What the reader of a shape word or of a class word finds: why it is refused, or its degree and how many parts it has.
-struct Seen {
+struct Measure {
     refused: u8,
     degree: u32,
     count: u32,
@@ -35,6 +36,9 @@ struct Seen {
 
 // The greatest degree.
 pub const LIMIT: u32 = 16;
+
+// How many degrees there are.
+pub const DEGREES: usize = LIMIT as usize + 1;
 
 fn refused(number: u8) -> NumberAnswer
     ensures { λ r. ⌜ r ≡ numberAnswer number (pos 0) ⌝ }
@@ -53,4 +57,24 @@ fn given(number: u64) -> NumberAnswer
         refused: 0,
         number: number as i64,
     }
+}
+
+// The count of the parts that were measured, where so many have room. Refuses with the measure's number, then 14.
+fn count_within(measure: Measure, room: usize) -> CountAnswer
+    ensures { λ r. ⌜ r ≡ countWithin measure room ⌝ }
+{
+    if measure.refused != 0 {
+        return CountAnswer {
+            refused: measure.refused,
+            count: 0,
+        };
+    }
+    let count = measure.count as usize;
+    if room < count {
+        return CountAnswer {
+            refused: 14,
+            count: 0,
+        };
+    }
+    CountAnswer { refused: 0, count }
 }

@@ -3,8 +3,9 @@ ghost use mathlib.Core.Path.{_≡_};
 ghost use Prim.Native.Nat.{suc, min};
 ghost use Rattle.theory.specs.Basics.{getD};
 ghost use Rattle.theory.specs.Partition.{isPartition, degree};
-ghost use Rattle.theory.specs.Refusals.{degreeLimit, firstOf};
-ghost use Rattle.words.specs.Reading.{listRows};
+ghost use Rattle.theory.specs.Refusals.{firstOf};
+ghost use Rattle.theory.specs.Limits.{degreeLimit};
+ghost use Rattle.words.specs.Private.Reading.{listChecks};
 use super::LIMIT;
 
 // A part, and 0 past the end.
@@ -50,7 +51,7 @@ pub fn capped_degree(parts: &[u8]) -> u32
 
 // Why a part list is refused: 3 for no partition, then `large` for a degree above the limit; 0 for a list that is not.
 pub fn refusal(parts: &[u8], large: u8) -> u8
-    ensures { λ r. ⌜ r ≡ firstOf (listRows degreeLimit large (now (parts .entry))) ⌝ }
+    ensures { λ r. ⌜ r ≡ firstOf (listChecks degreeLimit large (now (parts .entry))) ⌝ }
 {
     if !is_partition(parts) {
         return 3;

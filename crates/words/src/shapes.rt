@@ -1,27 +1,28 @@
 // Shape words (document 01, "Shape word" and "Conjugate").
 ghost use mathlib.Core.Path.{_≡_};
-ghost use mathlib.Core.Bool.{true};
-ghost use mathlib.Core.List.{_++_};
 ghost use Prim.Native.Nat.{_<_, _≤_, _^_};
-ghost use Rattle.theory.specs.Basics.{length, drop};
-ghost use Rattle.theory.specs.Partition.{isPartition, degree};
+ghost use Rattle.theory.specs.Basics.{length};
+ghost use Rattle.theory.specs.Partition.{degree};
 ghost use Rattle.theory.specs.ShapeWord.{shapeWord, shapeOf, conjugateWord};
-ghost use Rattle.theory.specs.Refusals.{degreeLimit, shapeRows};
-ghost use Rattle.words.specs.Answers.{Outcome};
-ghost use Rattle.words.specs.Reading.{seen};
+ghost use Rattle.theory.specs.Limits.{degreeLimit};
+ghost use Rattle.theory.specs.Bounds.Laws.{largestLimit};
+ghost use Rattle.theory.specs.Refusals.{shapeChecks};
+ghost use Rattle.words.specs.Answers.{Outcome, atFront};
+ghost use Rattle.words.specs.Private.Reading.{measured, ListWithin};
 ghost use Rattle.words.specs.Calls.{shapeWordFrom, shapePartsInto, shapeDegree, conjugateShape};
 use super::CountAnswer;
 use super::LIMIT;
+use super::Measure;
 use super::NumberAnswer;
-use super::Seen;
 use super::WordAnswer;
+use super::count_within;
 use super::given;
 use super::lists;
 use super::refused;
 
 // The shape word of a partition within the limit.
 fn bits(parts: &[u8]) -> u32
-    requires { ⌜ (isPartition (now parts) ≡ true) × (degree (now parts) ≤ degreeLimit) ⌝ }
+    requires { ⌜ ListWithin largestLimit (now parts) ⌝ }
     ensures { λ r. ⌜ r ≡ shapeWord (now (parts .entry)) ⌝ }
 {
     let mut left = 31u32;
@@ -82,11 +83,11 @@ fn row_count(word: u32) -> u32
 }
 
 // The one reader of shape words.
-fn read(word: u32) -> Seen
-    ensures { λ r. ⌜ r ≡ seen (shapeRows degreeLimit word) (shapeOf word) ⌝ }
+fn read(word: u32) -> Measure
+    ensures { λ r. ⌜ r ≡ measured (shapeChecks degreeLimit word) (shapeOf word) ⌝ }
 {
     if 0x4000_0000 <= word {
-        return Seen {
+        return Measure {
             refused: 1,
             degree: 0,
             count: 0,
@@ -94,13 +95,13 @@ fn read(word: u32) -> Seen
     }
     let degree = pairs(word);
     if LIMIT < degree {
-        return Seen {
+        return Measure {
             refused: 2,
             degree: 0,
             count: 0,
         };
     }
-    Seen {
+    Measure {
         refused: 0,
         degree,
         count: row_count(word),
@@ -108,9 +109,9 @@ fn read(word: u32) -> Seen
 }
 
 // The rows of a word to the front of a column that has room.
-fn put(word: u32, column: &mut [u8])
+fn write_rows(word: u32, column: &mut [u8])
     requires { ⌜ (word < 2 ^ 31) × (length (shapeOf word) ≤ length (now column)) ⌝ }
-    ensures { λ _. ⌜ now (column .exit) ≡ shapeOf word ++ drop (length (shapeOf word)) (now (column .entry)) ⌝ }
+    ensures { λ _. ⌜ now (column .exit) ≡ atFront (shapeOf word) (now (column .entry)) ⌝ }
 {
     let mut left = 31u32;
     let mut rest = word;
@@ -133,33 +134,23 @@ fn put(word: u32, column: &mut [u8])
 pub fn parts(word: u32, column: &mut [u8]) -> CountAnswer
     ensures { λ r. ⌜ Outcome (shapePartsInto degreeLimit word (now (column .entry))) r (now (column .exit)) ⌝ }
 {
-    let seen = read(word);
-    if seen.refused != 0 {
-        return CountAnswer {
-            refused: seen.refused,
-            count: 0,
-        };
+    let answer = count_within(read(word), column.len());
+    if answer.refused != 0 {
+        return answer;
     }
-    let count = seen.count as usize;
-    if column.len() < count {
-        return CountAnswer {
-            refused: 14,
-            count: 0,
-        };
-    }
-    put(word, column);
-    CountAnswer { refused: 0, count }
+    write_rows(word, column);
+    answer
 }
 
 // The degree n of a shape word. Refuses 1, then 2.
 pub fn degree(word: u32) -> NumberAnswer
     ensures { λ r. ⌜ r ≡ shapeDegree degreeLimit word ⌝ }
 {
-    let seen = read(word);
-    if seen.refused != 0 {
-        return refused(seen.refused);
+    let measure = read(word);
+    if measure.refused != 0 {
+        return refused(measure.refused);
     }
-    given(seen.degree as u64)
+    given(measure.degree as u64)
 }
 
 // The digits up to the last one, in reverse order and complemented.
@@ -186,10 +177,10 @@ fn flipped(word: u32) -> u32
 pub fn conjugate(word: u32) -> WordAnswer
     ensures { λ r. ⌜ r ≡ conjugateShape degreeLimit word ⌝ }
 {
-    let seen = read(word);
-    if seen.refused != 0 {
+    let measure = read(word);
+    if measure.refused != 0 {
         return WordAnswer {
-            refused: seen.refused,
+            refused: measure.refused,
             word: 0,
         };
     }

@@ -1,135 +1,85 @@
--- The lines that the hooks of a line x make (document 01, "one line for each hook is put at the end, in hook order, its
+-- The lines that the hooks of a line l make (document 01, "one line for each hook is put at the end, in hook order, its
 -- sign multiplied in, its class without one such cycle").
---   Has cycle x          the class of the line x has such a cycle
---   HookLine cycle x y   what is true of each line y that a hook of length cycle makes
+--   Has cycle l          the class of the line l has such a cycle
+--   HookLine cycle l y   what is true of each line y that a hook of length cycle makes
 use mathlib.Core.Path.{_≡_, refl, sym, _∙_, ap}
 use mathlib.Core.List.{map-map}
-use Prim.Native.Nat.{_<_, _≤_}
-use native.Mathlib.Nat.{one-mul}
-use native.Mathlib.Omega.{arith}
-use lib.IntN.{negℤ-negℤ}
+use Prim.Native.Nat.{_≤_}
 use lib.ListN.{length-map}
-use borrow.Author.Tests.{ltb-true}
-use Rattle.theory.specs.Basics.{Bool, true, false, cond, List, length, ℕ, suc, _+_, _-_, _*_, _^_, total, sum}
-use Rattle.theory.specs.Basics.{ℤ, pos, negsuc, _*ℤ_}
-use Rattle.theory.specs.Basics.Laws.{Each, each-map, map-same, sum-same, sum-map}
-use Rattle.theory.specs.Partition.{Parts, degree, times, without}
+use Rattle.theory.specs.Basics.{true, List, map, length, ℕ, _+_, _-_, _*_, total, sum, _*ℤ_, natAbs, signed}
+use Rattle.theory.specs.Basics.Laws.{Each, each-map, sum-same, sum-map}
+use Rattle.theory.specs.Basics.Integers.Products.{times-sums, times-signed}
+use Rattle.theory.specs.Partition.{Parts, times, without}
 use Rattle.theory.specs.Digits.{digits, width}
-use Rattle.theory.specs.Digits.Laws.{word-below}
-use Rattle.theory.specs.Character.{_on_}
 use Rattle.theory.specs.ShapeWord.{shapeOf, goodShape}
-use Rattle.theory.specs.ClassWord.{classDigits, classWord, classOf, goodClass}
-use Rattle.theory.specs.ClassWord.Laws.{GoodClass, parts-no-zero, without-good}
-use Rattle.theory.specs.Hooks.{Hook, hookWords, signed}
+use Rattle.theory.specs.ClassWord.{classWord, classOf, goodClass}
+use Rattle.theory.specs.ClassWord.Laws.{GoodClass, good-class, class-good, parts-no-zero, without-good}
+use Rattle.theory.specs.Character.{_on_}
+use Rattle.theory.specs.Hooks.{Hook, hookWords}
 use Rattle.theory.specs.Hooks.Words.{Left, hooks-leave, hooks-few, hook-rule-words}
-use Rattle.theory.specs.Hooks.Signed.{signed-sum}
-use Rattle.theory.specs.Bounds.Steps.{hooks-total}
-use Rattle.characters.specs.Line.{line, lineMinus, lineShape, lineClass, lineDegree, signedCharacter}
-use Rattle.characters.specs.Line.{multiplied, hookLines}
-use Rattle.characters.specs.Line.Laws.{ReadBack, read-back, good-class, over}
+use Rattle.theory.specs.Hooks.Bounds.{hooks-total}
+use Rattle.theory.specs.Bounds.Laws.{abs-signed}
+use Rattle.characters.specs.Line.{Line, lineDegree, signedCharacter, hookLine, hookLines}
 
-abbrev pub Has : ℕ → ℕ → Type 0
-Has cycle x = times cycle (classOf (lineClass x)) ≡ 0 → ⊥
+abbrev pub Has : ℕ → Line → Type 0
+Has cycle l = times cycle (classOf (l .class)) ≡ 0 → ⊥
 
-pub record HookLine (cycle x y : ℕ) : Type 0 where
-  pub below : y < 2 ^ 64
-  pub good-shape : goodShape (lineShape y) ≡ true
-  pub lower : lineDegree y + cycle ≡ lineDegree x
-  pub class-word : lineClass y ≡ classWord (without cycle (classOf (lineClass x)))
+pub record HookLine (cycle : ℕ) (l y : Line) : Type 0 where
+  pub good-shape : goodShape (y .shape) ≡ true
+  pub lower : lineDegree y + cycle ≡ lineDegree l
+  pub class-word : y .class ≡ classWord (without cycle (classOf (l .class)))
+  pub same-size : natAbs (y .weight) ≡ natAbs (l .weight)
 
-module _ (cycle x : ℕ) where
-  abbrev classLeft : ℕ
-  classLeft = classWord (without cycle (classOf (lineClass x)))
+module _ (cycle : ℕ) (l : Line) where
+  abbrev hooks : List (Hook ℕ)
+  hooks = hookWords cycle (l .shape)
 
-  abbrev made : Hook ℕ → ℕ
-  made hook = line (multiplied (lineMinus x) (hook .minus)) (hook .leaves) classLeft
-
-  -- ---- each line that a hook makes
-  abbrev Read : Hook ℕ → Type 0
-  Read hook = ReadBack (multiplied (lineMinus x) (hook .minus)) (hook .leaves) classLeft (made hook)
-
-  read : (hook : Hook ℕ) → Left cycle (lineShape x) hook → Read hook
-  read hook l =
-      let s : hook .leaves < 2 ^ 30 = ltb-true (hook .leaves) (2 ^ 30) (l .good) in
-      let c : classLeft < 2 ^ width = word-below width (classDigits (without cycle (classOf (lineClass x)))) in
-      read-back _ (hook .leaves) classLeft (omega arith) (omega arith)
-
-  pub hook-lines : Each (HookLine cycle x) (hookLines cycle x)
+  pub hook-lines : Each (HookLine cycle l) (hookLines cycle l)
   unfolding hookLines
-  hook-lines = each-map (Left cycle (lineShape x)) (HookLine cycle x) made (hookWords cycle (lineShape x)) ok
-      (hooks-leave cycle (lineShape x))
-    where
-      ok : (hook : Hook ℕ) → Left cycle (lineShape x) hook → HookLine cycle x (made hook)
-      ok hook l =
-          let r = read hook l in
-          record {
-            below = r .below;
-            good-shape = rw (r .its-shape) (l .good);
-            lower = rw (r .its-shape) (l .lower);
-            class-word = r .its-class;
-          }
+  hook-lines = each-map (Left cycle (l .shape)) (HookLine cycle l) (hookLine cycle l) hooks
+      (λ hook left. record {
+        good-shape = left .good;
+        lower = left .lower;
+        class-word = refl;
+        same-size = abs-signed (hook .minus) (l .weight);
+      })
+      (hooks-leave cycle (l .shape))
 
-  -- ---- all of them
-  pub hook-lines-few : length (hookLines cycle x) ≤ lineDegree x
+  pub hook-lines-few : length (hookLines cycle l) ≤ lineDegree l
   unfolding hookLines
-  hook-lines-few = rw (length-map (hookWords cycle (lineShape x)) made) (hooks-few cycle (lineShape x))
+  hook-lines-few = rw (length-map hooks (hookLine cycle l)) (hooks-few cycle (l .shape))
 
   -- what goes by the degree alone
   pub over-hook-lines : (f : ℕ → ℕ)
-      → over f (hookLines cycle x) ≡ length (hookWords cycle (lineShape x)) * f (lineDegree x - cycle)
+      → total (map (λ y. f (lineDegree y)) (hookLines cycle l)) ≡ length hooks * f (lineDegree l - cycle)
   unfolding hookLines
   over-hook-lines f =
-      let hooks : List (Hook ℕ) = hookWords cycle (lineShape x) in
-      ap total
-      (map-map (λ (y : ℕ). f (lineDegree y)) made hooks
-      ∙ map-same (Left cycle (lineShape x)) _ (λ hook. f (degree (shapeOf (hook .leaves)))) hooks
-      (λ hook l. ap (λ (w : ℕ). f (degree (shapeOf w))) (read hook l .its-shape)) (hooks-leave cycle (lineShape x)))
-      ∙ hooks-total cycle (lineShape x) f
-
--- ---- signs
-weighed : (minus : Bool) (z : ℤ) → cond minus (negsuc 0) (pos 1) *ℤ z ≡ signed minus z
-weighed true (pos n) = ap (λ (m : ℕ). signed true (pos m)) (one-mul n)
-weighed true (negsuc n) = ap pos (one-mul (suc n))
-weighed false (pos n) = ap pos (one-mul n)
-weighed false (negsuc n) = ap (λ (m : ℕ). signed true (pos m)) (one-mul (suc n))
-
-signed-multiplied : (a b : Bool) (z : ℤ) → signed a (signed b z) ≡ signed (multiplied a b) z
-signed-multiplied true true z = negℤ-negℤ z
-signed-multiplied true false z = refl
-signed-multiplied false b z = refl
-
-pub signed-character : (x : ℕ)
-    → signedCharacter x ≡ signed (lineMinus x) (shapeOf (lineShape x) on classOf (lineClass x))
-unfolding signedCharacter
-signed-character x = weighed (lineMinus x) (shapeOf (lineShape x) on classOf (lineClass x))
+      ap total (map-map (λ (y : Line). f (lineDegree y)) (hookLine cycle l) hooks) ∙ hooks-total cycle (l .shape) f
 
 -- ---- the hook rule on a line
-module _ (cycle x : ℕ) (good : goodClass (lineClass x) ≡ true) (has : Has cycle x) where
-  class-left : GoodClass (classLeft cycle x) × (classOf (classLeft cycle x) ≡ without cycle (classOf (lineClass x)))
-  class-left = without-good cycle (good-class x good) has
+module _ (cycle : ℕ) (l : Line) (good : goodClass (l .class) ≡ true) (has : Has cycle l) where
+  abbrev left : Parts
+  left = without cycle (classOf (l .class))
 
-  pub hook-line-class : (y : ℕ) → HookLine cycle x y
-      → (goodClass (lineClass y) ≡ true) × (classOf (lineClass y) ≡ without cycle (classOf (lineClass x)))
-  hook-line-class y h = rw (h .class-word) (class-left .0 .accepted, class-left .1)
+  class-left : GoodClass (classWord left) × (classOf (classWord left) ≡ left)
+  class-left = without-good cycle (good-class (l .class) good) has
 
-  made-character : (hook : Hook ℕ) → Left cycle (lineShape x) hook
-      → signedCharacter (made cycle x hook)
-      ≡ signed (multiplied (lineMinus x) (hook .minus))
-      (shapeOf (hook .leaves) on without cycle (classOf (lineClass x)))
-  made-character hook l =
-      let r = read cycle x hook l in
-      signed-character (made cycle x hook) ∙ rw (r .its-minus, r .its-shape, r .its-class, class-left .1)
+  pub hook-line-class : (y : Line) → HookLine cycle l y → (goodClass (y .class) ≡ true) × (classOf (y .class) ≡ left)
+  hook-line-class y h = rw (h .class-word) (class-good (class-left .0), class-left .1)
 
-  pub hook-rule-line : signedCharacter x ≡ sum signedCharacter (hookLines cycle x)
-  unfolding hookLines
+  made-character : (hook : Hook ℕ)
+      → signedCharacter (hookLine cycle l hook) ≡ signed (hook .minus) (l .weight) *ℤ (shapeOf (hook .leaves) on left)
+  unfolding signedCharacter
+  made-character hook = rw (class-left .1)
+
+  pub hook-rule-line : signedCharacter l ≡ sum signedCharacter (hookLines cycle l)
+  unfolding hookLines signedCharacter
   hook-rule-line =
-      let c : Parts = classOf (lineClass x) in
-      let hooks : List (Hook ℕ) = hookWords cycle (lineShape x) in
-      signed-character x
-      ∙ ap (signed (lineMinus x))
-      (hook-rule-words cycle c (parts-no-zero 0 (digits width (lineClass x))) has (lineShape x))
-      ∙ signed-sum (lineMinus x) _ hooks
-      ∙ sum-same (Left cycle (lineShape x)) _ (λ hook. signedCharacter (made cycle x hook)) hooks
-      (λ hook l. signed-multiplied (lineMinus x) (hook .minus) _ ∙ sym (made-character hook l))
-      (hooks-leave cycle (lineShape x))
-      ∙ sym (sum-map signedCharacter (made cycle x) hooks)
+      let hooks : List (Hook ℕ) = hookWords cycle (l .shape) in
+      let no-zero = parts-no-zero 0 (digits width (l .class)) in
+      let rule = hook-rule-words cycle (classOf (l .class)) no-zero has (l .shape) in
+      ap (λ z. l .weight *ℤ z) rule
+      ∙ times-sums (l .weight) _ hooks
+      ∙ sum-same (Left cycle (l .shape)) _ (λ hook. signedCharacter (hookLine cycle l hook)) hooks
+      (λ hook h. times-signed (hook .minus) (l .weight) _ ∙ sym (made-character hook)) (hooks-leave cycle (l .shape))
+      ∙ sym (sum-map signedCharacter (hookLine cycle l) hooks)

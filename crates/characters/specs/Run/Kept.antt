@@ -4,20 +4,19 @@ use mathlib.Core.Path.{_≡_, refl, sym, _∙_, ap}
 use lib.Dec.{eqb·suc-zero}
 use lib.IntN.{+ℤ-assoc, +ℤ-idr}
 use Rattle.theory.specs.Basics.{cond, List, [], _∷_, length, ℕ, zero, suc, _+_, pos, _+ℤ_, _=?_}
-use Rattle.theory.specs.Refusals.{firstOf, judged}
-use Rattle.characters.specs.declared.Slip.{Slip}
-use Rattle.characters.specs.declared.Handed.{Handed}
+use Rattle.theory.specs.Refusals.{firstOf, refusedOr}
 use Rattle.characters.specs.Sound.Laws.{Sound}
-use Rattle.characters.specs.Opening.{handed, padded}
+use Rattle.characters.specs.Line.{Line}
+use Rattle.characters.specs.Page.{waiting, padded, handed, Slip, Handed}
 use Rattle.characters.specs.Opening.Laws.{refused-opening}
-use Rattle.characters.specs.Opening.Padded.{length-padded}
-use Rattle.characters.specs.Step.{nextLines, nextSlip, stepRows, step}
-use Rattle.characters.specs.Step.Laws.{accepted, next-sound, next-worth}
+use Rattle.characters.specs.Page.Padded.{length-padded}
+use Rattle.characters.specs.Step.{nextLines, nextSlip, stepChecks, step}
+use Rattle.characters.specs.Step.Laws.{accepted, next-sound-page, next-worth-page}
 use Rattle.characters.specs.Run.{Call, opened, stepped, watched, Run, Session, acceptedSteps, unwatched, worth}
 
 pub record Leads (limit : ℕ) (s : Slip) (p : List ℕ) (k : ℕ) (t : Slip) (q : List ℕ) : Type 0 where
-  pub fair : Sound limit t q
-  pub same-worth : worth t q ≡ worth s p
+  pub soundness : Sound limit t q
+  pub same-worth : worth t (waiting t q) ≡ worth s (waiting s p)
   pub counted : t .steps ≡ s .steps +ℤ pos k
   pub same-shape : t .shape ≡ s .shape
   pub same-class : t .class ≡ s .class
@@ -26,7 +25,7 @@ pub record Leads (limit : ℕ) (s : Slip) (p : List ℕ) (k : ℕ) (t : Slip) (q
 module _ {limit : ℕ} {s : Slip} {p : List ℕ} where
   stays : Sound limit s p → Leads limit s p 0 s p
   stays f = record {
-    fair = f;
+    soundness = f;
     same-worth = refl;
     counted = sym (+ℤ-idr (s .steps));
     same-shape = refl;
@@ -37,7 +36,7 @@ module _ {limit : ℕ} {s : Slip} {p : List ℕ} where
   and-then : {j k : ℕ} {t u : Slip} {q r : List ℕ} → Leads limit s p j t q → Leads limit t q k u r
       → Leads limit s p (j + k) u r
   and-then {j} {k} l m = record {
-    fair = m .fair;
+    soundness = m .soundness;
     same-worth = m .same-worth ∙ l .same-worth;
     counted = m .counted ∙ ap (λ z. z +ℤ pos k) (l .counted) ∙ +ℤ-assoc (s .steps) (pos j) (pos k);
     same-shape = m .same-shape ∙ l .same-shape;
@@ -54,24 +53,27 @@ module _ (limit : ℕ) where
       → Leads limit s p (one-if-accepted (step limit s p line cycle .0)) (step limit s p line cycle .0 .slip)
       (step limit s p line cycle .1)
   unfolding step nextSlip
-  step-leads s p line cycle f = go (firstOf (stepRows limit s p line cycle)) refl
+  step-leads s p line cycle f = go (firstOf (stepChecks limit s p line cycle)) refl
     where
-      Judged : ℕ → Handed × List ℕ
-      Judged k =
-          judged k (λ j. (handed j s, p))
-          (handed 0 (nextSlip s p line cycle), padded (nextLines s p line cycle) p)
+      lines : List Line
+      lines = waiting s p
 
-      go : (k : ℕ) → firstOf (stepRows limit s p line cycle) ≡ k
-          → Leads limit s p (one-if-accepted (Judged k .0)) (Judged k .0 .slip) (Judged k .1)
+      Given : ℕ → Handed × List ℕ
+      Given k =
+          refusedOr k (λ j. (handed j s, p))
+          (handed 0 (nextSlip s lines line cycle), padded (nextLines lines line cycle) p)
+
+      go : (k : ℕ) → firstOf (stepChecks limit s p line cycle) ≡ k
+          → Leads limit s p (one-if-accepted (Given k .0)) (Given k .0 .slip) (Given k .1)
       go zero e =
           let a = accepted limit s p line cycle e in
           record {
-            fair = next-sound limit s p line cycle a;
-            same-worth = next-worth limit s p line cycle a;
+            soundness = next-sound-page limit s p line cycle a;
+            same-worth = next-worth-page limit s p line cycle a;
             counted = refl;
             same-shape = refl;
             same-class = refl;
-            same-length = length-padded (nextLines s p line cycle) p (a .room);
+            same-length = length-padded (nextLines lines line cycle) p (a .room);
           }
       go (suc k) e = rw (eqb·suc-zero k) (stays f)
 
@@ -88,7 +90,7 @@ module _ (limit : ℕ) (t : Slip) (q : List ℕ) where
   run-leads s p (stepped line cycle a p′ ∷ calls) f r =
       let l : Leads limit s p (one-if-accepted a) (a .slip) p′ =
       rw (r .0 .answers, r .0 .leaves) (step-leads limit s p line cycle f) in
-      and-then l (run-leads (a .slip) p′ calls (l .fair) (r .1))
+      and-then l (run-leads (a .slip) p′ calls (l .soundness) (r .1))
   run-leads s p (watched kind line a ∷ calls) f r = run-leads s p calls f (r .1)
 
   run-unwatched : (s : Slip) (p : List ℕ) (calls : List Call) → Run limit s p calls t q

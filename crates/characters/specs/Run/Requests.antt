@@ -6,9 +6,8 @@
 --   answers s p rs       the calls that ask rs, one after the other; end s p rs, the slip and page that they lead to
 use mathlib.Core.Path.{_≡_, refl, sym, _∙_, ap, ap₂}
 use Rattle.theory.specs.Basics.{List, [], _∷_, map, ℕ}
-use Rattle.words.specs.Answers.{one-outcome}
-use Rattle.characters.specs.declared.Slip.{Slip}
-use Rattle.characters.specs.declared.Handed.{Handed}
+use Rattle.words.specs.Answers.Laws.{one-outcome}
+use Rattle.characters.specs.Page.{Slip, Handed}
 use Rattle.characters.specs.Opening.{opening}
 use Rattle.characters.specs.Step.{step}
 use Rattle.characters.specs.Watch.{watch}

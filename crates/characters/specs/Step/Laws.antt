@@ -1,101 +1,114 @@
 -- An accepted step on any sound slip and page, whoever wrote it: what it leaves is sound again and worth the same.
---   Accepted ..   what it says that no row refuses a step
-use mathlib.Core.Path.{_≡_, refl, _∙_, sym, ap}
-use mathlib.Core.Bool.{false≢true}
-use Prim.Native.Nat.{_≤_}
+--   NamedOn ..    what it tells that no check from 6 to 9 refuses a line and a cycle; Accepted .., that none refuses
+use mathlib.Core.Path.{_≡_, refl, _∙_, ap}
+use Prim.Native.Nat.{_≤_, _<_}
 use native.Mathlib.Omega.{arith}
-use lib.Signed.{nonNeg}
-use borrow.Author.Tests.{ltb-false, leb-false, eqb-false, not-false}
-use Rattle.theory.specs.Basics.{true, List, _∷_, _++_, length, ℕ, _+_, ℤ, pos, negsuc, _+ℤ_, natAbs, sum}
-use Rattle.theory.specs.Basics.Laws.{sum-append}
-use Rattle.theory.specs.Character.Integers.{sums}
-use Rattle.theory.specs.Bounds.{factorial, S}
-use Rattle.theory.specs.Refusals.{firstOf, pageLimit}
-use Rattle.theory.specs.Refusals.Laws.{none-applies}
-use Rattle.characters.specs.declared.Slip.{Slip}
-use Rattle.characters.specs.Line.{weight, signedCharacter}
-use Rattle.characters.specs.Sound.{sound}
-use Rattle.characters.specs.Sound.Laws.{asked, Sound, is-sound}
-use Rattle.characters.specs.Opening.{padded}
-use Rattle.characters.specs.Opening.Padded.{sound-padded, worth-padded}
-use Rattle.characters.specs.Step.{nextLines, nextSlip, stepRows}
-use Rattle.characters.specs.Step.Strike.{gone, left, strike-worth, strike-value, strike-span}
-use Rattle.characters.specs.Step.Named.{chosen, before, behind, Named, settled-within, lines-split}
-use Rattle.characters.specs.Step.Named.{chosen-sound, over-waiting, next-lines, over-next}
-use Rattle.characters.specs.Watch.{waitingSum}
+use lib.ListN.{length-map, List·getD-map}
+use lib.Seq.{length-take-le}
+use borrow.Author.Tests.{ltb-false, leb-false, eqb-false}
+use Rattle.theory.specs.Basics.{List, [], _∷_, length, take, ℕ}
+use Rattle.theory.specs.Basics.Laws.{Each, each-same}
+use Rattle.theory.specs.Limits.{pageLimit}
+use Rattle.theory.specs.ShapeWord.Good.{good-shape}
+use Rattle.theory.specs.ClassWord.{classOf}
+use Rattle.theory.specs.ClassWord.Laws.{good-class}
+use Rattle.theory.specs.Refusals.{Check, firstOf, no-8, no-9, no-10}
+use Rattle.theory.specs.Refusals.Laws.{none-applies, both-pass}
+use Rattle.characters.specs.Line.{Line}
+use Rattle.characters.specs.Line.Hooks.{hook-line-class}
+use Rattle.characters.specs.Page.{lineOf, waiting, lineAt, padded, Slip}
+use Rattle.characters.specs.Page.Words.{Plain, plain-line, plain-lines}
+use Rattle.characters.specs.Sound.{pageChecks}
+use Rattle.characters.specs.Sound.Laws.{Sound, page-passed, asked}
+use Rattle.characters.specs.Sound.Padded.{waiting-padded, sound-padded}
+use Rattle.characters.specs.Step.{waitingHooks, nextLines, nextSlip, namedChecks, stepChecks}
+use Rattle.characters.specs.Step.Strike.{each-waiting}
+use Rattle.characters.specs.Step.Named.{Named, chosen-sound, next-each, next-sound, next-worth}
 use Rattle.characters.specs.Run.{worth}
 
-pub record Accepted (limit : ℕ) (slip : Slip) (page : List ℕ) (line cycle : ℕ) : Type 0 where
-  pub short : length page ≤ pageLimit
-  pub named : Named limit slip page line cycle
-  pub room : length (nextLines slip page line cycle) ≤ length page
-
-one-more : (z : ℤ) → nonNeg z ≡ true → (nonNeg (z +ℤ pos 1) ≡ true) × (natAbs (z +ℤ pos 1) ≡ natAbs z + 1)
-one-more (pos n) e = (refl, refl)
-one-more (negsuc n) e = absurd (false≢true e)
-
-moved : (z g b d l : ℤ) → z +ℤ g +ℤ (b +ℤ d +ℤ l) ≡ z +ℤ (b +ℤ (g +ℤ l +ℤ d))
-moved z g b d l = simp sums
-
--- a line exchanged for lines and a number that together are worth as much
-exchanged : (f : ℕ → ℤ) (z g : ℤ) (b d l : List ℕ) (x : ℕ) → f x ≡ g +ℤ sum f l
-    → z +ℤ g +ℤ sum f (b ++ d ++ l) ≡ z +ℤ sum f (b ++ x ∷ d)
-exchanged f z g b d l x e =
-    rw (sum-append f (b ++ d) l, sum-append f b d, sum-append f b (x ∷ d), e)
-    (moved z g (sum f b) (sum f d) (sum f l))
-
 module _ (limit : ℕ) (slip : Slip) (page : List ℕ) (line cycle : ℕ) where
-  pub accepted : firstOf (stepRows limit slip page line cycle) ≡ 0 → Accepted limit slip page line cycle
-  accepted e =
-      let a = none-applies (stepRows limit slip page line cycle) refl e in
+  abbrev lines : List Line
+  lines = waiting slip page
+
+  abbrev next : List Line
+  next = nextLines lines line cycle
+
+  -- ---- a line and a cycle that are named
+  pub record NamedOn : Type 0 where
+    pub short : length page ≤ pageLimit
+    pub soundness : Sound limit slip page
+    pub there : line < slip .lines
+    pub named : Named limit slip lines line cycle
+
+  pub named-on : firstOf (namedChecks limit slip page line cycle) ≡ 0 → NamedOn
+  named-on e =
+      let rest : List Check = no-8 (slip .lines) line ∷ no-9 (classOf (lineAt lines line .class)) cycle ∷ [] in
+      let (page-none, none) = both-pass (pageChecks limit slip page) rest refl e in
+      let (short, soundness) = page-passed limit slip page page-none in
+      let (is-there, (has, _)) = none-applies rest refl none in
+      let there = leb-false (slip .lines) line is-there in
+      let count = length-map (take (slip .lines) page) lineOf in
       record {
-        short = ltb-false pageLimit (length page) (a .0);
+        short = short;
+        soundness = soundness;
+        there = there;
         named = record {
-          fair = is-sound limit slip page (not-false (sound limit slip page) (a .1 .0));
-          there = leb-false (slip .lines) line (a .1 .1 .0);
-          has = eqb-false _ 0 (a .1 .1 .1 .0);
+          soundness = soundness .lines;
+          there = omega (arith, length-take-le (slip .lines) page (soundness .fit));
+          has = eqb-false _ 0 has;
         };
-        room = ltb-false (length page) (length (nextLines slip page line cycle)) (a .1 .1 .1 .1 .0);
       }
 
-  module _ (a : Accepted limit slip page line cycle) where
-    pub next-sound : Sound limit (nextSlip slip page line cycle) (padded (nextLines slip page line cycle) page)
-    unfolding nextSlip
-    next-sound =
-        let n = a .named in
-        let x : ℕ = chosen page line in
-        let sound-x = chosen-sound limit slip page line cycle n in
-        let steps = one-more (slip .steps) (n .fair .forward) in
-        sound-padded (nextLines slip page line cycle) page (a .room) limit (slip .shape) (slip .class)
-        (slip .settled +ℤ sum weight (gone cycle x)) (slip .steps +ℤ pos 1) (n .fair .words)
-        (next-lines limit slip page line cycle n)
-        (omega (
-          arith,
-          settled-within (slip .settled) (gone cycle x),
-          strike-value (asked slip) cycle x sound-x (n .has),
-          over-waiting limit slip page line cycle n factorial,
-          over-next limit slip page line cycle n factorial,
-          n .fair .value,
-        ))
-        (steps .0)
-        (omega (
-          arith,
-          steps .1,
-          strike-span (asked slip) cycle x sound-x (n .has),
-          over-waiting limit slip page line cycle n S,
-          over-next limit slip page line cycle n S,
-          n .fair .span,
-        ))
+  -- ---- an accepted step
+  pub record Accepted : Type 0 where
+    pub named : NamedOn
+    pub room : length next ≤ length page
 
-    pub next-worth : worth (nextSlip slip page line cycle) (padded (nextLines slip page line cycle) page)
-        ≡ worth slip page
-    unfolding nextSlip nextLines worth waitingSum
-    next-worth =
+  pub accepted : firstOf (stepChecks limit slip page line cycle) ≡ 0 → Accepted
+  accepted e =
+      let last : List Check = no-10 next page ∷ [] in
+      let (named-none, none) = both-pass (namedChecks limit slip page line cycle) last refl e in
+      record {
+        named = named-on named-none;
+        room = ltb-false (length page) (length next) (none-applies last refl none .0);
+      }
+
+  module _ (a : NamedOn) where
+    -- what waits can be written down: its hooks have its weight's size, and good words
+    hooks-plain : Each Plain (waitingHooks cycle (lineAt lines line))
+    hooks-plain =
+        let l : Line = lineAt lines line in
         let n = a .named in
-        let x : ℕ = chosen page line in
-        let z : ℤ = slip .settled in
-        worth-padded (nextLines slip page line cycle) page (a .room) limit (slip .shape) (slip .class)
-        (z +ℤ sum weight (gone cycle x)) (slip .steps +ℤ pos 1)
-        ∙ exchanged signedCharacter z (sum weight (gone cycle x)) (before slip page line) (behind slip page line)
-        (left cycle x) x (strike-worth (asked slip) cycle x (chosen-sound limit slip page line cycle n) (n .has))
-        ∙ ap (λ xs. z +ℤ sum signedCharacter xs) (sym (lines-split limit slip page line cycle n))
+        let s = chosen-sound limit slip lines line cycle n in
+        each-same _ Plain (waitingHooks cycle l)
+        (λ y h.
+        let class = good-class (y .class) (hook-line-class cycle l (s .class) (n .has) y (h .0) .0) .below in
+        let shape = good-shape (y .shape) (h .0 .good-shape) .below in
+        record {
+          unit = h .0 .same-size ∙ line-plain .unit;
+          shape-fits = omega arith;
+          class-fits = omega arith;
+        })
+        (each-waiting (asked slip) cycle l s (n .has))
+      where
+        line-plain : Plain (lineAt lines line)
+        line-plain = rw (List·getD-map lineOf (take (slip .lines) page) line 0) (plain-line _)
+
+    pub next-plain : Each Plain next
+    next-plain =
+        next-each limit slip lines line cycle (a .named) Plain (plain-lines (take (slip .lines) page)) hooks-plain
+
+  module _ (a : Accepted) where
+    pub next-sound-page : Sound limit (nextSlip slip lines line cycle) (padded next page)
+    unfolding nextSlip
+    next-sound-page =
+        sound-padded (nextSlip slip lines line cycle) next page refl (next-plain (a .named)) limit (a .room)
+        (next-sound limit slip lines line cycle (a .named .named))
+
+    pub next-worth-page : worth (nextSlip slip lines line cycle)
+        (waiting (nextSlip slip lines line cycle) (padded next page)) ≡ worth slip lines
+    unfolding nextSlip
+    next-worth-page =
+        ap (worth (nextSlip slip lines line cycle))
+        (waiting-padded (nextSlip slip lines line cycle) next page refl (next-plain (a .named)))
+        ∙ next-worth limit slip lines line cycle (a .named .named)

@@ -1,107 +1,128 @@
--- A step that names a line of a sound page and a cycle of its class, room or no room for what comes of it.
---   chosen page line       the line that a step names
---   before .., behind ..   the lines that wait before it and behind it
---   Named ..               what it says that no row from 7 to 9 refuses a step
-use mathlib.Core.Path.{_≡_, _∙_, ap}
+-- A step that names one of the lines of a sound slip and a cycle of its class, however the lines are written down: the
+-- lines that come of it are sound again, and worth the same.
+--   Named ..            the line numbered i is there, and its class has the cycle
+--   worth slip lines    what every step keeps: settled plus the signed waiting characters (Run.antt)
+use mathlib.Core.Path.{_≡_, refl, sym, _∙_, ap}
+use mathlib.Core.Bool.{false≢true}
 use Prim.Native.Nat.{_≤_, _<_}
-use native.Mathlib.Nat.{le-refl}
 use native.Mathlib.Omega.{arith}
 use lib.ListN.{length-append}
-use lib.Seq.{split-at, getD-take, length-take-le}
-use Rattle.theory.specs.Basics.{Bool, true, false, cond, List, _∷_, _++_, length, getD, take, drop, ℕ, suc, _+_, _-_}
-use Rattle.theory.specs.Basics.{ℤ, pos, negsuc, _+ℤ_, natAbs, sum}
-use Rattle.theory.specs.Basics.Laws.{Each, each-append, each-member}
-use Rattle.theory.specs.Basics.Keep.{each-parts}
+use lib.Seq.{split-at}
+use lib.Signed.{nonNeg}
+use Rattle.theory.specs.Basics.{true, List, _∷_, _++_, length, map, take, drop, ℕ, suc, _+_, _-_, ℤ, pos, negsuc, _+ℤ_}
+use Rattle.theory.specs.Basics.{natAbs, total, sum}
+use Rattle.theory.specs.Basics.Integers.{sums}
+use Rattle.theory.specs.Basics.Laws.{Each, each-append, sum-append}
+use Rattle.theory.specs.Basics.Keep.{each-parts, total-append}
 use Rattle.theory.specs.Bounds.{factorial}
-use Rattle.theory.specs.Bounds.Laws.{abs-add, abs-sum}
-use Rattle.characters.specs.declared.Slip.{Slip}
-use Rattle.characters.specs.Line.{lineMinus, lineDegree, weight}
-use Rattle.characters.specs.Line.Laws.{over, over-append}
+use Rattle.theory.specs.Bounds.Laws.{abs-add}
+use Rattle.characters.specs.Line.{Line, signedCharacter}
 use Rattle.characters.specs.Line.Hooks.{Has}
-use Rattle.characters.specs.Sound.{waiting}
-use Rattle.characters.specs.Sound.Laws.{SoundLine, asked, Sound}
-use Rattle.characters.specs.Step.{nextLines}
-use Rattle.characters.specs.Step.Strike.{gone, left, left-sound, strike-value}
+use Rattle.characters.specs.Line.Weights.{weightOf}
+use Rattle.characters.specs.Page.{lineOf, lineAt, Slip}
+use Rattle.characters.specs.Sound.{lineValue, lineSpan}
+use Rattle.characters.specs.Sound.Laws.{SoundLine, asked, SoundLines}
+use Rattle.characters.specs.Step.{settledHooks, waitingHooks, nextLines, nextSlip}
+use Rattle.characters.specs.Step.Strike.{waiting-sound, strike-worth, strike-value, strike-span}
+use Rattle.characters.specs.Run.{worth}
 
-abbrev pub chosen : List ℕ → ℕ → ℕ
-chosen page line = getD page line 0
+pub record Named (limit : ℕ) (slip : Slip) (lines : List Line) (i cycle : ℕ) : Type 0 where
+  pub soundness : SoundLines limit slip lines
+  pub there : i < length lines
+  pub has : Has cycle (lineAt lines i)
 
-abbrev pub before : Slip → List ℕ → ℕ → List ℕ
-before slip page line = take line (waiting slip page)
+one-more : (z : ℤ) → nonNeg z ≡ true → (nonNeg (z +ℤ pos 1) ≡ true) × (natAbs (z +ℤ pos 1) ≡ natAbs z + 1)
+one-more (pos n) e = (refl, refl)
+one-more (negsuc n) e = absurd (false≢true e)
 
-abbrev pub behind : Slip → List ℕ → ℕ → List ℕ
-behind slip page line = drop (suc line) (waiting slip page)
+moved : (z g b d l : ℤ) → z +ℤ g +ℤ (b +ℤ d +ℤ l) ≡ z +ℤ (b +ℤ (g +ℤ l +ℤ d))
+moved z g b d l = simp sums
 
-pub record Named (limit : ℕ) (slip : Slip) (page : List ℕ) (line cycle : ℕ) : Type 0 where
-  pub fair : Sound limit slip page
-  pub there : line < slip .lines
-  pub has : Has cycle (chosen page line)
+-- a line exchanged for lines and a number that together are worth as much
+worth-exchanged : (f : Line → ℤ) (z g : ℤ) (b d l : List Line) (x : Line) → f x ≡ g +ℤ sum f l
+    → z +ℤ g +ℤ sum f (b ++ d ++ l) ≡ z +ℤ sum f (b ++ x ∷ d)
+worth-exchanged f z g b d l x e =
+    rw (sum-append f (b ++ d) l, sum-append f b d, sum-append f b (x ∷ d), e)
+    (moved z g (sum f b) (sum f d) (sum f l))
 
--- ---- signs
-weight-one : (minus : Bool) → natAbs (cond minus (negsuc 0) (pos 1)) ≤ 1
-weight-one true = le-refl 1
-weight-one false = le-refl 1
-
--- the signs of lines move a sum by no more than their number
-pub settled-within : (z : ℤ) (xs : List ℕ) → natAbs (z +ℤ sum weight xs) ≤ natAbs z + length xs
-settled-within z xs = omega (
-  arith,
-  abs-add z (sum weight xs),
-  abs-sum 1 weight xs (each-member _ xs (λ x m. weight-one (lineMinus x))),
-)
-
-module _ (limit : ℕ) (slip : Slip) (page : List ℕ) (line cycle : ℕ) (a : Named limit slip page line cycle) where
+module _ (limit : ℕ) (slip : Slip) (lines : List Line) (i cycle : ℕ) (n : Named limit slip lines i cycle) where
   -- ---- the line and its neighbours
-  pub lines-split : waiting slip page ≡ before slip page line ++ chosen page line ∷ behind slip page line
-  lines-split =
-      split-at (waiting slip page) line 0 (omega (arith, a .there, length-take-le (slip .lines) page (a .fair .fit)))
-      ∙ ap (λ (x : ℕ). before slip page line ++ x ∷ behind slip page line)
-      (getD-take (slip .lines) page line 0 (a .there))
+  abbrev chosen : Line
+  chosen = lineAt lines i
 
-  parts : Each (SoundLine (asked slip)) (before slip page line)
-      × Each (SoundLine (asked slip)) (chosen page line ∷ behind slip page line)
-  parts = each-parts (SoundLine (asked slip)) (before slip page line) (chosen page line ∷ behind slip page line)
-      (rw lines-split at (a .fair .lines))
+  abbrev before : List Line
+  before = take i lines
 
-  pub chosen-sound : SoundLine (asked slip) (chosen page line)
+  abbrev behind : List Line
+  behind = drop (suc i) lines
+
+  abbrev hooks : List Line
+  hooks = waitingHooks cycle chosen
+
+  lines-split : lines ≡ before ++ chosen ∷ behind
+  lines-split = split-at lines i (lineOf 0) (n .there)
+
+  parts : Each (SoundLine (asked slip)) before × Each (SoundLine (asked slip)) (chosen ∷ behind)
+  parts = each-parts (SoundLine (asked slip)) before (chosen ∷ behind) (rw lines-split at (n .soundness .each))
+
+  pub chosen-sound : SoundLine (asked slip) chosen
   chosen-sound = parts .1 .0
 
-  pub over-waiting : (f : ℕ → ℕ) → over f (waiting slip page)
-      ≡ over f (before slip page line) + (f (lineDegree (chosen page line)) + over f (behind slip page line))
-  over-waiting f =
-      ap (over f) lines-split ∙ over-append f (before slip page line) (chosen page line ∷ behind slip page line)
+  -- ---- what they count
+  over-split : (f : Line → ℕ) → total (map f lines) ≡ total (map f before) + (f chosen + total (map f behind))
+  over-split f = ap (λ (ls : List Line). total (map f ls)) lines-split ∙ total-append f before (chosen ∷ behind)
 
-  -- the signs of its hooks can be added to settled, in whatever order
-  pub settled-room : natAbs (slip .settled) + length (gone cycle (chosen page line)) ≤ factorial (asked slip)
+  over-next : (f : Line → ℕ)
+      → total (map f (nextLines lines i cycle)) ≡ total (map f before) + total (map f behind) + total (map f hooks)
+  unfolding nextLines
+  over-next f = omega (arith, total-append f (before ++ behind) hooks, total-append f before behind)
+
+  -- the weights of its hooks can be added to settled, in whatever order
+  pub settled-room : natAbs (slip .settled) + natAbs (sum weightOf (settledHooks cycle chosen)) ≤ factorial (asked slip)
   settled-room = omega (
     arith,
-    strike-value (asked slip) cycle (chosen page line) chosen-sound (a .has),
-    over-waiting factorial,
-    a .fair .value,
+    strike-value (asked slip) cycle chosen chosen-sound (n .has),
+    over-split lineValue,
+    n .soundness .value,
   )
 
   -- ---- the lines that come of it
-  pub next-length : length (nextLines slip page line cycle) ≡ slip .lines - 1 + length (left cycle (chosen page line))
+  pub next-each : (P : Line → Type 0) → Each P lines → Each P hooks → Each P (nextLines lines i cycle)
+  unfolding nextLines
+  next-each P all new =
+      let (first, rest) = each-parts P before (chosen ∷ behind) (rw lines-split at all) in
+      each-append P (before ++ behind) hooks (each-append P before behind first (rest .1)) new
+
+  pub next-length : length (nextLines lines i cycle) ≡ length lines - 1 + length hooks
   unfolding nextLines
   next-length = simp length-append
-      (omega (
-        arith,
-        ap length lines-split,
-        length-append (before slip page line) (chosen page line ∷ behind slip page line),
-        length-take-le (slip .lines) page (a .fair .fit),
-      ))
+      (omega (arith, ap length lines-split, length-append before (chosen ∷ behind)))
 
-  pub next-lines : Each (SoundLine (asked slip)) (nextLines slip page line cycle)
-  unfolding nextLines
-  next-lines = each-append _ (before slip page line ++ behind slip page line) (left cycle (chosen page line))
-      (each-append _ (before slip page line) (behind slip page line) (parts .0) (parts .1 .1))
-      (left-sound (asked slip) cycle (chosen page line) chosen-sound (a .has))
+  pub next-sound : SoundLines limit (nextSlip slip lines i cycle) (nextLines lines i cycle)
+  unfolding nextSlip
+  next-sound =
+      let s = n .soundness in
+      let struck = strike-value (asked slip) cycle chosen chosen-sound (n .has) in
+      let lasts = strike-span (asked slip) cycle chosen chosen-sound (n .has) in
+      let steps = one-more (slip .steps) (s .forward) in
+      record {
+        words = s .words;
+        each = next-each (SoundLine (asked slip)) (s .each)
+            (waiting-sound (asked slip) cycle chosen chosen-sound (n .has));
+        value = omega (
+          arith,
+          abs-add (slip .settled) (sum weightOf (settledHooks cycle chosen)),
+          over-split lineValue,
+          over-next lineValue,
+          s .value,
+        );
+        forward = steps .0;
+        span = omega (arith, over-split lineSpan, over-next lineSpan, s .span);
+      }
 
-  pub over-next : (f : ℕ → ℕ) → over f (nextLines slip page line cycle)
-      ≡ over f (before slip page line) + over f (behind slip page line) + over f (left cycle (chosen page line))
-  unfolding nextLines
-  over-next f = omega (
-    arith,
-    over-append f (before slip page line ++ behind slip page line) (left cycle (chosen page line)),
-    over-append f (before slip page line) (behind slip page line),
-  )
+  pub next-worth : worth (nextSlip slip lines i cycle) (nextLines lines i cycle) ≡ worth slip lines
+  unfolding nextSlip nextLines worth
+  next-worth =
+      worth-exchanged signedCharacter (slip .settled) (sum weightOf (settledHooks cycle chosen)) before behind hooks
+      chosen (strike-worth (asked slip) cycle chosen chosen-sound (n .has))
+      ∙ ap (λ ls. slip .settled +ℤ sum signedCharacter ls) (sym lines-split)

@@ -1,68 +1,65 @@
--- A sound line x struck by a cycle of its class: what waits of its hook lines is sound, it is worth what they and the
--- settled signs are worth, and they need no more than it did.
---   gone cycle x   its hook lines of the empty shape, whose signs are settled; left cycle x, those that wait
-use mathlib.Core.Path.{_≡_, refl, sym, _∙_, ap}
+-- A sound line l struck by a cycle of its class: what waits of its hook lines is sound, it is worth what they and the
+-- settled weights are worth, and they count no more than it did.
+use mathlib.Core.Path.{_≡_, sym, _∙_, ap}
 use Prim.Native.Nat.{_≤_}
+use native.Mathlib.Nat.{le-refl, mul-le-mul, mul-one}
 use native.Mathlib.Decide.{ℕ-discrete}
 use native.Mathlib.Omega.{arith}
 use borrow.Author.Tests.{eqb-true, eqb-false, not-true}
-use Rattle.theory.specs.Basics.{Bool, true, false, not, cond, List, length, ℕ, _+_, keep, sum}
-use Rattle.theory.specs.Basics.{pos, negsuc, _+ℤ_, _*ℤ_, _=?_}
-use Rattle.theory.specs.Basics.Laws.{Each, each-same, total-same, sum-same}
+use Rattle.theory.specs.Basics.{true, not, map, ℕ, _+_, _-_, _*_, ℤ, _+ℤ_, natAbs, total, sum}
+use Rattle.theory.specs.Basics.{_=?_}
+use Rattle.theory.specs.Basics.Laws.{Each, each-same, each-member, map-same, sum-same}
 use Rattle.theory.specs.Basics.Keep.{each-keep, sum-keep, total-keep}
+use Rattle.theory.specs.Basics.Integers.Products.{times-one}
 use Rattle.theory.specs.Partition.{degree}
 use Rattle.theory.specs.Partition.Laws.{without-degree, times-zero}
 use Rattle.theory.specs.Digits.{digits, width}
-use Rattle.theory.specs.Character.Empty.{empty-on-empty}
 use Rattle.theory.specs.ShapeWord.{shapeOf}
-use Rattle.theory.specs.ShapeWord.Empty.{empty-word}
+use Rattle.theory.specs.ShapeWord.Words.{empty-word}
 use Rattle.theory.specs.ShapeWord.Laws.{rows-partition}
 use Rattle.theory.specs.ClassWord.{classOf}
-use Rattle.theory.specs.ClassWord.Laws.{class-held, parts-no-zero}
+use Rattle.theory.specs.ClassWord.Laws.{good-class, parts-no-zero}
+use Rattle.theory.specs.Character.{_on_}
+use Rattle.theory.specs.Character.Order.{empty-on-empty}
+use Rattle.theory.specs.Hooks.Bounds.{step-factorial, step-S}
 use Rattle.theory.specs.Bounds.{factorial, S}
-use Rattle.theory.specs.Bounds.Steps.{step-factorial, step-S}
-use Rattle.characters.specs.Line.{lineMinus, lineShape, lineClass, lineDegree, weight, signedCharacter, hookLines}
-use Rattle.characters.specs.Line.Laws.{over, good-class}
+use Rattle.theory.specs.Bounds.Laws.{factorial-positive}
+use Rattle.characters.specs.Line.{Line, lineDegree, signedCharacter, hookLines}
 use Rattle.characters.specs.Line.Hooks.{Has, HookLine, hook-lines, over-hook-lines, hook-line-class}
 use Rattle.characters.specs.Line.Hooks.{hook-rule-line}
-use Rattle.characters.specs.Sound.Laws.{SoundLine}
-use Rattle.characters.specs.Step.{empty}
-
-abbrev pub gone : ℕ → ℕ → List ℕ
-gone cycle x = keep empty (hookLines cycle x)
-
-abbrev pub left : ℕ → ℕ → List ℕ
-left cycle x = keep (λ y. not (empty y)) (hookLines cycle x)
+use Rattle.characters.specs.Line.Weights.{weightOf, sum-within, total-scaled}
+use Rattle.characters.specs.Sound.{lineValue, lineSpan}
+use Rattle.characters.specs.Sound.Laws.{SoundLine, values, spans}
+use Rattle.characters.specs.Step.{empty, settledHooks, waitingHooks}
 
 -- a hook line has the empty shape exactly when its degree is 0
-pub empty-line : {cycle x y : ℕ} → HookLine cycle x y → empty y ≡ (lineDegree y =? 0)
-empty-line {y = y} h = empty-word (lineShape y) (h .good-shape)
+pub empty-line : {cycle : ℕ} {l y : Line} → HookLine cycle l y → empty y ≡ (lineDegree y =? 0)
+empty-line {y = y} h = empty-word (y .shape) (h .good-shape)
 
-times-one : (minus : Bool) → cond minus (negsuc 0) (pos 1) *ℤ pos 1 ≡ cond minus (negsuc 0) (pos 1)
-times-one true = refl
-times-one false = refl
-
-module _ (n cycle x : ℕ) (s : SoundLine n x) (has : Has cycle x) where
+module _ (n cycle : ℕ) (l : Line) (s : SoundLine n l) (has : Has cycle l) where
   pub cycle-positive : 1 ≤ cycle
   cycle-positive = elim (ℕ-discrete cycle 0) [
-    | yes e ↦ absurd (has (rw e (times-zero (parts-no-zero 0 (digits width (lineClass x))))))
+    | yes e ↦ absurd (has (rw e (times-zero (parts-no-zero 0 (digits width (l .class))))))
     | no f ↦ omega arith
   ]
 
   -- the class of a hook line has the degree of its shape
-  class-degree : (y : ℕ) → HookLine cycle x y → lineDegree y ≡ degree (classOf (lineClass y))
+  class-degree : (y : Line) → HookLine cycle l y → lineDegree y ≡ degree (classOf (y .class))
   class-degree y h =
-      rw (hook-line-class cycle x (s .class) has y h .1)
-      (omega (arith, without-degree cycle (classOf (lineClass x)) has, h .lower, s .degrees))
+      rw (hook-line-class cycle l (s .class) has y h .1)
+      (omega (arith, without-degree cycle (classOf (l .class)) has, h .lower, s .degrees))
 
-  pub left-sound : Each (SoundLine n) (left cycle x)
-  left-sound = each-same _ (SoundLine n) (left cycle x) ok
-      (each-keep (λ y. not (empty y)) (HookLine cycle x) (hookLines cycle x) (hook-lines cycle x))
+  -- ---- hook lines that wait
+  pub each-waiting : Each (λ y. HookLine cycle l y × (not (empty y) ≡ true)) (waitingHooks cycle l)
+  each-waiting = each-keep (λ y. not (empty y)) (HookLine cycle l) (hookLines cycle l) (hook-lines cycle l)
+
+  pub waiting-sound : Each (SoundLine n) (waitingHooks cycle l)
+  waiting-sound = each-same _ (SoundLine n) (waitingHooks cycle l) ok each-waiting
     where
-      ok : (y : ℕ) → HookLine cycle x y × (not (empty y) ≡ true) → SoundLine n y
+      ok : (y : Line) → HookLine cycle l y × (not (empty y) ≡ true) → SoundLine n y
       ok y h = record {
         shape = h .0 .good-shape;
-        class = hook-line-class cycle x (s .class) has y (h .0) .0;
+        class = hook-line-class cycle l (s .class) has y (h .0) .0;
         degrees = class-degree y (h .0);
         some =
             let f = eqb-false (lineDegree y) 0 (sym (empty-line (h .0)) ∙ not-true (empty y) (h .1)) in
@@ -70,54 +67,59 @@ module _ (n cycle x : ℕ) (s : SoundLine n x) (has : Has cycle x) where
         within = omega (arith, h .0 .lower, s .within);
       }
 
-  Gone : ℕ → Type 0
-  Gone y = HookLine cycle x y × (empty y ≡ true)
+  -- ---- hook lines that are settled
+  Settled : Line → Type 0
+  Settled y = HookLine cycle l y × (empty y ≡ true)
 
-  each-gone : Each Gone (gone cycle x)
-  unfolding Gone
-  each-gone = each-keep empty (HookLine cycle x) (hookLines cycle x) (hook-lines cycle x)
+  settled-worth : (y : Line) → Settled y → signedCharacter y ≡ y .weight
+  unfolding Settled signedCharacter
+  settled-worth y h =
+      let d : lineDegree y ≡ 0 = eqb-true (lineDegree y) 0 (sym (empty-line (h .0)) ∙ h .1) in
+      let good = good-class (y .class) (hook-line-class cycle l (s .class) has y (h .0) .0) in
+      rw (empty-on-empty (shapeOf (y .shape)) (classOf (y .class)) (rows-partition (digits width (y .shape)))
+      (good .partition) d (sym (class-degree y (h .0)) ∙ d))
+      (times-one (y .weight))
 
-  gone-degree : (y : ℕ) → Gone y → lineDegree y ≡ 0
-  unfolding Gone
-  gone-degree y h = eqb-true (lineDegree y) 0 (sym (empty-line (h .0)) ∙ h .1)
-
-  gone-worth : (y : ℕ) → Gone y → signedCharacter y ≡ weight y
-  unfolding Gone signedCharacter
-  gone-worth y h =
-      let good = hook-line-class cycle x (s .class) has y (h .0) .0 in
-      let held = class-held (good-class y good) in
-      rw (empty-on-empty (shapeOf (lineShape y)) (classOf (lineClass y)) (rows-partition (digits width (lineShape y)))
-      (held .partition) (gone-degree y h) (sym (class-degree y (h .0)) ∙ gone-degree y h))
-      (times-one (lineMinus y))
-
-  pub strike-worth : signedCharacter x ≡ sum weight (gone cycle x) +ℤ sum signedCharacter (left cycle x)
+  pub strike-worth : signedCharacter l
+      ≡ sum weightOf (settledHooks cycle l) +ℤ sum signedCharacter (waitingHooks cycle l)
+  unfolding Settled
   strike-worth =
-      hook-rule-line cycle x (s .class) has
-      ∙ sum-keep empty signedCharacter (hookLines cycle x)
-      ∙ ap (λ z. z +ℤ sum signedCharacter (left cycle x))
-      (sum-same Gone signedCharacter weight (gone cycle x) gone-worth each-gone)
+      hook-rule-line cycle l (s .class) has
+      ∙ sum-keep empty signedCharacter (hookLines cycle l)
+      ∙ ap (λ z. z +ℤ sum signedCharacter (waitingHooks cycle l))
+      (sum-same Settled signedCharacter weightOf (settledHooks cycle l) settled-worth
+      (each-keep empty (HookLine cycle l) (hookLines cycle l) (hook-lines cycle l)))
 
-  -- each line that is gone had 0! = 1
-  gone-value : (y : ℕ) → Gone y → factorial (lineDegree y) ≡ 1
-  unfolding Gone factorial
-  gone-value y h =
-      let d : lineDegree y ≡ 0 = gone-degree y h in
-      rw d refl
+  -- ---- what they count
+  hook-values : values (hookLines cycle l) ≤ lineValue l
+  hook-values =
+      let size : ℕ = natAbs (l .weight) in
+      let scaled : values (hookLines cycle l) ≡ size * total (map (λ y. factorial (lineDegree y)) (hookLines cycle l)) =
+      ap total
+      (map-same (HookLine cycle l) lineValue (λ y. size * factorial (lineDegree y)) (hookLines cycle l)
+      (λ y h. ap (λ (k : ℕ). k * factorial (lineDegree y)) (h .same-size)) (hook-lines cycle l))
+      ∙ total-scaled size (λ y. factorial (lineDegree y)) (hookLines cycle l) in
+      rw (scaled, over-hook-lines cycle l factorial)
+      (mul-le-mul (le-refl size) (step-factorial cycle (l .shape) cycle-positive))
 
-  pub strike-value : length (gone cycle x) + over factorial (left cycle x) ≤ factorial (lineDegree x)
+  weight-counted : (y : Line) → natAbs (y .weight) ≤ lineValue y
+  weight-counted y =
+      let size : ℕ = natAbs (y .weight) in
+      omega (arith, mul-one size, mul-le-mul (le-refl size) (factorial-positive (lineDegree y)))
+
+  pub strike-value : natAbs (sum weightOf (settledHooks cycle l)) + values (waitingHooks cycle l) ≤ lineValue l
   strike-value = omega (
     arith,
-    total-keep empty (λ y. factorial (lineDegree y)) (hookLines cycle x),
-    total-same (λ y. factorial (lineDegree y)) 1 (gone cycle x)
-        (each-same Gone _ (gone cycle x) gone-value each-gone),
-    over-hook-lines cycle x factorial,
-    step-factorial cycle (lineShape x) cycle-positive,
+    hook-values,
+    total-keep empty lineValue (hookLines cycle l),
+    sum-within weightOf lineValue (settledHooks cycle l)
+        (each-member _ (settledHooks cycle l) (λ y m. weight-counted y)),
   )
 
-  pub strike-span : 1 + over S (left cycle x) ≤ S (lineDegree x)
+  pub strike-span : 1 + spans (waitingHooks cycle l) ≤ lineSpan l
   strike-span = omega (
     arith,
-    total-keep empty (λ y. S (lineDegree y)) (hookLines cycle x),
-    over-hook-lines cycle x S,
-    step-S cycle (lineShape x) cycle-positive (s .some),
+    total-keep empty lineSpan (hookLines cycle l),
+    over-hook-lines cycle l S,
+    step-S cycle (l .shape) cycle-positive (s .some),
   )

@@ -5,10 +5,10 @@ use mathlib.Core.Path.{_≡_, refl, sym, _∙_, ap}
 use Prim.Native.Nat.{_≤_}
 use native.Mathlib.Omega.{arith}
 use borrow.Author.Tests.{lt-leb}
-use Rattle.theory.specs.Basics.{List, ℕ, zero, suc, _-_}
-use Rattle.characters.specs.declared.Slip.{Slip}
+use Rattle.theory.specs.Basics.{List, ℕ, zero, suc}
 use Rattle.characters.specs.declared.Watched.{Watched}
 use Rattle.characters.specs.declared.Watched.the-variants.{Whole, Ratio, Refused}
+use Rattle.characters.specs.Page.{waiting, Slip}
 use Rattle.characters.specs.Watch.{Value, whole, quotient, none, reads, shown, watch}
 
 abbrev pub said : ℕ × Value → Watched
@@ -27,9 +27,13 @@ one-answer a b w p q = sym (said-reads a) ∙ ap said (p ∙ sym q) ∙ said-rea
 pub line-ignored : (limit : ℕ) (slip : Slip) (page : List ℕ) (kind i j : ℕ) → 3 ≤ kind
     → watch limit slip page kind i ≡ watch limit slip page kind j
 unfolding watch shown
-line-ignored limit slip page zero i j h = absurd (omega arith)
-line-ignored limit slip page (suc zero) i j h = absurd (omega arith)
-line-ignored limit slip page (suc (suc zero)) i j h = absurd (omega arith)
-line-ignored limit slip page (suc (suc (suc kind))) i j h =
-    let past : suc (suc (suc kind)) - 1 ≡ suc (suc kind) = omega arith in
-    rw (lt-leb (suc (suc (suc kind))) 2 (omega arith), past) refl
+line-ignored limit slip page kind i j h = rw (lt-leb kind 2 (omega arith), same kind h)
+  where
+    same : (kind : ℕ) → 3 ≤ kind → shown slip (waiting slip page) i kind ≡ shown slip (waiting slip page) j kind
+    same zero h = absurd (omega arith)
+    same (suc zero) h = absurd (omega arith)
+    same (suc (suc zero)) h = absurd (omega arith)
+    same (suc (suc (suc zero))) h = refl
+    same (suc (suc (suc (suc zero)))) h = refl
+    same (suc (suc (suc (suc (suc zero))))) h = refl
+    same (suc (suc (suc (suc (suc (suc kind)))))) h = refl

@@ -2,10 +2,10 @@
 -- without loss"). Of the library: round f minus a b is a / b, with a minus or a plus, rounded to the format f.
 --   negative z     z is below 0
 --   ratioLimit     18: the largest degree whose factorial is at most 2^53
---   Carried x      both numbers of the ratio of the line x are carried over without loss, and it is divided by no zero
+--   Exact l        both numbers of the ratio of the line l are carried over without loss, and it is divided by no zero
 use mathlib.Core.Path.{_≡_, refl, sym, _∙_, ap}
 use Prim.Native.Nat.{_≤_, _<_}
-use native.Mathlib.Nat.{le-trans, mul-one, mul-assoc, mul-comm, mul-pos}
+use native.Mathlib.Nat.{le-trans, one-mul, mul-one, mul-assoc, mul-comm, mul-pos}
 use native.Mathlib.Bridge.{le-by-compare, IsLe}
 use native.Mathlib.Omega.{arith}
 use lib.Dec.{T, le→leb, lt→ltb}
@@ -21,8 +21,11 @@ use Rattle.theory.specs.Character.{characterDegree}
 use Rattle.theory.specs.ShapeWord.{shapeOf}
 use Rattle.theory.specs.Bounds.{factorial}
 use Rattle.theory.specs.Bounds.Laws.{factorial-rises}
-use Rattle.theory.specs.Bounds.Degrees.{Positive, degree-positive, degree-bounded}
-use Rattle.characters.specs.Line.{lineShape, lineDegree, signedCharacter}
+use Rattle.theory.specs.Hooks.Degrees.{Positive, degree-positive, degree-bounded}
+use Rattle.characters.specs.Line.{Line, lineDegree, signedCharacter}
+use Rattle.characters.specs.Page.{lineOf}
+use Rattle.characters.specs.Page.Words.{unit-weight}
+use Rattle.characters.specs.Sound.{lineValue}
 use Rattle.characters.specs.Sound.Laws.{SoundLine}
 use Rattle.characters.specs.Sound.Bounds.{line-bounded}
 use Rattle.characters.specs.Watch.{ratio}
@@ -87,23 +90,32 @@ divided-once z d h k p =
     (carried (pos (suc (p .before))) (rw (p .is) at k)) (omega arith)
     ∙ ap (λ s. round binary64 s (natAbs z) (suc (p .before))) (unlike-plus (negative z)))
 
-pub record Carried (x : ℕ) : Type 0 where
-  pub character-fits : natAbs (signedCharacter x) ≤ 2 ^ 53
-  pub degree-fits : natAbs (characterDegree (shapeOf (lineShape x))) ≤ 2 ^ 53
-  pub divides : Positive (characterDegree (shapeOf (lineShape x)))
+pub record Exact (l : Line) : Type 0 where
+  pub character-fits : natAbs (signedCharacter l) ≤ 2 ^ 53
+  pub degree-fits : natAbs (characterDegree (shapeOf (l .shape))) ≤ 2 ^ 53
+  pub divides : Positive (characterDegree (shapeOf (l .shape)))
 
-pub line-carried : {n x : ℕ} → SoundLine n x → lineDegree x ≤ ratioLimit → Carried x
-line-carried {x = x} s small = record {
-  character-fits = le-trans (line-bounded s) (factorial-carried (lineDegree x) small);
-  degree-fits = le-trans (degree-bounded (lineShape x)) (factorial-carried (lineDegree x) small);
-  divides = degree-positive (lineShape x);
-}
+-- a line of weight 1 or -1
+module _ {n : ℕ} {l : Line} (s : SoundLine n l) (unit : natAbs (l .weight) ≡ 1) (small : lineDegree l ≤ ratioLimit)
+  where
+    pub line-exact : Exact l
+    line-exact =
+        let value : lineValue l ≡ factorial (lineDegree l) = rw unit (one-mul (factorial (lineDegree l))) in
+        record {
+          character-fits = omega (arith, line-bounded s, factorial-carried (lineDegree l) small);
+          degree-fits = le-trans (degree-bounded (l .shape)) (factorial-carried (lineDegree l) small);
+          divides = degree-positive (l .shape);
+        }
 
-pub ratio-rounded : {n x : ℕ} → SoundLine n x → lineDegree x ≤ ratioLimit
-    → ratio x ≡ round binary64 (negative (signedCharacter x)) (natAbs (signedCharacter x))
-    (natAbs (characterDegree (shapeOf (lineShape x))))
-unfolding ratio
-ratio-rounded {x = x} s small =
-    let c = line-carried s small in
-    divided-once (signedCharacter x) (characterDegree (shapeOf (lineShape x))) (c .character-fits) (c .degree-fits)
-    (c .divides)
+    pub ratio-rounded : ratio l ≡ round binary64 (negative (signedCharacter l)) (natAbs (signedCharacter l))
+        (natAbs (characterDegree (shapeOf (l .shape))))
+    unfolding ratio
+    ratio-rounded =
+        divided-once (signedCharacter l) (characterDegree (shapeOf (l .shape))) (line-exact .character-fits)
+        (line-exact .degree-fits) (line-exact .divides)
+
+-- and so of a page's word
+pub word-ratio-rounded : {n : ℕ} (x : ℕ) → SoundLine n (lineOf x) → lineDegree (lineOf x) ≤ ratioLimit
+    → ratio (lineOf x) ≡ round binary64 (negative (signedCharacter (lineOf x))) (natAbs (signedCharacter (lineOf x)))
+    (natAbs (characterDegree (shapeOf (lineOf x .shape))))
+word-ratio-rounded x s small = ratio-rounded s (unit-weight x) small

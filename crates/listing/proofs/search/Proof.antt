@@ -8,10 +8,10 @@ use Rattle.theory.specs.Basics.{List, ℕ, _+_, getD, length}
 use Rattle.theory.specs.Partition.{degree}
 use Rattle.theory.specs.ShapeWord.{shapeOf}
 use Rattle.theory.specs.Listing.{rank, start}
-use Rattle.theory.specs.Refusals.{degreeLimit}
+use Rattle.theory.specs.Limits.{degreeLimit}
 use Rattle.listing.specs.declared.SectionAnswer.{SectionAnswer}
-use Rattle.listing.specs.Calls.{shapeWords}
-use Rattle.listing.proofs.Indexes.{shapeWords-length, section-given, rank-inside, rank-found, rank-ahead}
+use Rattle.listing.specs.Private.Tables.{shapeWords, wordCount}
+use Rattle.listing.proofs.Indexes.{words-counted, section-given, rank-inside, rank-found, rank-ahead}
 use Rattle.listing.proofs.search.Statement.{statement}
 use Rattle.listing.proofs.search.Tie as tie
 
@@ -32,13 +32,14 @@ from : (c : tie.At-loop Inv-loop μ-loop)
 from c =
     let begin = c .before .before .before in
     let small : begin .args .degree ≤ degreeLimit = omega (arith, begin .pre .2, begin .pre .1 .small) in
-    let section = section-given _ (c .before .section .result) (c .before .section .ensures) small in
+    let section = section-given degreeLimit _ (c .before .section .result) (c .before .section .ensures) small in
     ap (λ (x : SectionAnswer). x .start) section ∙ ap start (begin .pre .2)
 
-inside : (c : tie.At-loop Inv-loop μ-loop) → c .before .section .result .start + c .loop .rank < 915
+inside : (c : tie.At-loop Inv-loop μ-loop) → c .before .section .result .start + c .loop .rank < wordCount
 inside c =
     let begin = c .before .before .before in
-    omega (arith, from c, rank-inside (begin .args .word) (c .loop .rank) (begin .pre .1) (c .loop .inv))
+    let inside = rank-inside degreeLimit (begin .args .word) (c .loop .rank) (begin .pre .1) (c .loop .inv) in
+    omega (arith, from c, words-counted)
 
 read : (c : tie.At-loop Inv-loop μ-loop)
     → let begin = c .before .before .before in
@@ -57,14 +58,15 @@ mul-if1 c = omega (arith, inside c)
 
 shared-slice-read-if1 : tie.Need-shared-slice-read-if1 Inv-loop μ-loop
 shared-slice-read-if1 c =
-    omega (arith, inside (c .before), ap length (c .before .before .before .before .pre .0), shapeWords-length)
+    omega (arith, inside (c .before), ap length (c .before .before .before .before .pre .0), words-counted)
 
 ahead : (c : tie.Then1 Inv-loop μ-loop) → let l = c .before .before in
     l .loop .rank < rank (shapeOf (l .before .before .before .args .word))
 ahead c =
     let l = c .before .before in
     let begin = l .before .before .before in
-    rank-ahead (begin .args .word) (l .loop .rank) (begin .pre .1) (l .loop .inv) (λ e. c .if1 .taken (read l ∙ e))
+    rank-ahead degreeLimit (begin .args .word) (l .loop .rank) (begin .pre .1) (l .loop .inv)
+    (λ e. c .if1 .taken (read l ∙ e))
 
 add-rank : tie.Need-add-rank Inv-loop μ-loop
 add-rank c = omega (arith, ahead c, inside (c .before .before))
@@ -79,7 +81,9 @@ returns : tie.Need-returns Inv-loop μ-loop
 returns c =
     let l = c .before .before in
     let begin = l .before .before .before in
-    sym (rank-found (begin .args .word) (l .loop .rank) (begin .pre .1) (l .loop .inv) (sym (read l) ∙ c .if1 .left))
+    sym
+    (rank-found degreeLimit (begin .args .word) (l .loop .rank) (begin .pre .1) (l .loop .inv) (omega arith)
+    (sym (read l) ∙ c .if1 .left))
 
 pub search-spec : {M : Type 1} → statement M
 search-spec =

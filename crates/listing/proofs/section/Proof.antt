@@ -6,11 +6,11 @@ use native.Mathlib.Omega.{arith}
 use borrow.Author.Needs.{needs}
 use borrow.Author.Tests.{lt-ltb, le-ltb}
 use Rattle.theory.specs.Basics.{List, [], _∷_, ℕ, getD, take, total}
-use Rattle.theory.specs.Basics.Places.{tabled-at}
+use Rattle.theory.specs.Basics.AtPlace.{tabled-at}
 use Rattle.theory.specs.Listing.{partitionCounts, start}
 use Rattle.theory.specs.Listing.Laws.{count-kept}
 use Rattle.theory.specs.Listing.Words.{start-summed}
-use Rattle.theory.specs.Refusals.{degreeLimit}
+use Rattle.theory.specs.Limits.{degreeLimit}
 use Rattle.listing.specs.Calls.{sectionAnswer, sectionOf}
 use Rattle.listing.proofs.section.Statement.{statement}
 use Rattle.listing.proofs.section.Tie as tie

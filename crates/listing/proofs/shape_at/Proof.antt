@@ -6,12 +6,13 @@ use borrow.Author.Needs.{needs}
 use Rattle.theory.specs.Basics.{List, ℕ, suc, _+_, getD, length}
 use Rattle.theory.specs.Listing.{listing, start}
 use Rattle.theory.specs.Listing.Words.{word-at}
-use Rattle.theory.specs.Refusals.{degreeLimit}
+use Rattle.theory.specs.Limits.{degreeLimit}
 use Rattle.words.proofs.Answers.{word-refused, word-given}
 use Rattle.listing.specs.declared.SectionAnswer.{SectionAnswer}
-use Rattle.listing.specs.Calls.{sectionAnswer, shapeAt}
-use Rattle.listing.proofs.Indexes.{section-refused, section-small, section-given, index-below}
-use Rattle.listing.proofs.Ranks.{rows, Listed, degree-refused, rank-refused, none-refused}
+use Rattle.listing.specs.Calls.{sectionAnswer, rankChecks, shapeAt}
+use Rattle.listing.specs.Private.Tables.{wordCount}
+use Rattle.listing.proofs.Indexes.{words-counted, section-small, section-given, index-below}
+use Rattle.listing.proofs.Ranks.{Listed, degree-refused, rank-refused, none-refused}
 use Rattle.listing.proofs.shape_at.Statement.{statement}
 use Rattle.listing.proofs.shape_at.Tie as tie
 
@@ -23,21 +24,20 @@ unfolding shapeAt
 returns c =
     let a = c .before .before .before .args in
     let s = c .before .before .section in
-    let above = section-refused (a .degree) (s .result) (s .ensures) (c .if1 .taken) in
-    word-refused (rows (a .degree) (a .rank)) _ (s .result .refused)
-    (above .1 ∙ degree-refused (a .degree) (a .rank) (above .0)) (λ z. c .if1 .taken z)
+    word-refused (rankChecks degreeLimit (a .degree) (a .rank)) _ (s .result .refused)
+    (degree-refused degreeLimit (a .degree) (a .rank) (s .result) (s .ensures) (c .if1 .taken)) (c .if1 .taken)
 
 -- the section of a degree that was not refused
 small : (c : tie.Else1) → c .before .before .before .args .degree ≤ degreeLimit
 small c =
     let s = c .before .before .section in
-    section-small (c .before .before .before .args .degree) (s .result) (s .ensures) (c .if1 .left)
+    section-small degreeLimit (c .before .before .before .args .degree) (s .result) (s .ensures) (c .if1 .left)
 
 given : (c : tie.Else1) → let n = c .before .before .before .args .degree in
     c .before .before .section .result ≡ sectionAnswer 0 (start n) (length (listing n))
 given c =
     let s = c .before .before .section in
-    section-given (c .before .before .before .args .degree) (s .result) (s .ensures) (small c)
+    section-given degreeLimit (c .before .before .before .args .degree) (s .result) (s .ensures) (small c)
 
 counted : (c : tie.Else1) → let n = c .before .before .before .args .degree in
     c .before .before .section .result .count ≡ length (listing n)
@@ -52,8 +52,8 @@ unfolding shapeAt
 returns-2 c =
     let else1 = c .before .before in
     let a = else1 .before .before .before .args in
-    let refuses = rank-refused (a .degree) (a .rank) (small else1) (omega (arith, counted else1)) in
-    word-refused (rows (a .degree) (a .rank)) _ 11 refuses (λ z. omega arith)
+    let refuses = rank-refused degreeLimit (a .degree) (a .rank) (small else1) (omega (arith, counted else1)) in
+    word-refused (rankChecks degreeLimit (a .degree) (a .rank)) _ 11 refuses (λ z. omega arith)
 
 shape-words-requires : tie.Need-shape-words-requires
 shape-words-requires c κs = search needs
@@ -62,17 +62,18 @@ abbrev passed : tie.After-struct-known3 → tie.Else1
 passed c = c .before .before .before .before
 
 known : (c : tie.After-struct-known3) → let a = passed c .before .before .before .args in
-    Listed (a .degree) (a .rank)
+    Listed degreeLimit (a .degree) (a .rank)
 known c = record {
   small = small (passed c);
   within = omega (arith, counted (passed c), c .before .before .if2 .left);
 }
 
 inside : (c : tie.After-struct-known3) → let s = passed c .before .before in
-    s .section .result .start + s .before .args .rank < 915
+    s .section .result .start + s .before .args .rank < wordCount
 inside c =
     let a = passed c .before .before .before .args in
-    omega (arith, index-below (a .degree) (a .rank) (known c .small) (known c .within), starts (passed c))
+    let below = index-below degreeLimit (a .degree) (a .rank) (known c .small) (known c .within) in
+    omega (arith, words-counted, starts (passed c))
 
 add-i : tie.Need-add-i
 add-i c = omega (arith, inside c)
@@ -91,7 +92,8 @@ returns-3 c =
     let read =
     ap₂ (λ (l : List ℕ) (i : ℕ). getD l (i + a .rank) 0) (c .before .shape-words .ensures) (starts (passed c))
     ∙ word-at (suc degreeLimit) (a .degree) (a .rank) (omega (arith, k .small)) (k .within) in
-    word-given (rows (a .degree) (a .rank)) _ _ (none-refused (a .degree) (a .rank) (k .small) (k .within)) read
+    word-given (rankChecks degreeLimit (a .degree) (a .rank)) _ _ (none-refused degreeLimit (a .degree) (a .rank) k)
+    read
 
 pub shape-at-spec : {M : Type 1} → statement M
 shape-at-spec =

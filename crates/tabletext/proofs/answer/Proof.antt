@@ -2,10 +2,10 @@
 use mathlib.Core.Path.{_≡_}
 use borrow.Author.Needs.{needs}
 use Rattle.theory.specs.Listing.{listing}
-use Rattle.theory.specs.Refusals.{degreeLimit}
+use Rattle.theory.specs.Limits.{degreeLimit}
 use Rattle.tabletext.specs.Table.{decimal, field, table, chartable}
 use Rattle.tabletext.specs.Table.Asked.{asks-nothing, asks-too-much, asks-for}
-use Rattle.tabletext.specs.Reading.Laws.{nothing-read, number-read}
+use Rattle.tabletext.specs.Private.Reading.Laws.{nothing-read, number-read}
 use Rattle.tabletext.proofs.Answered.{answer-fits, answered}
 use Rattle.tabletext.proofs.answer.Statement.{statement}
 use Rattle.tabletext.proofs.answer.Tie as tie

@@ -7,7 +7,7 @@ use native.Mathlib.Omega.{arith}
 use lib.ListN.{length-append}
 use Rattle.theory.specs.Basics.{List, [], _∷_, _++_, ℕ, zero, suc, _*_, length, getD, take}
 use Rattle.theory.specs.Basics.Laws.{Each, each-same}
-use Rattle.theory.specs.Basics.Joined.{joined-next, joined-front, joined-length}
+use Rattle.theory.specs.Basics.Laws.{joined-next, joined-front, joined-length}
 use Rattle.tabletext.specs.Table.{Text, ascii, commas}
 
 abbrev pub separator : ℕ → Text

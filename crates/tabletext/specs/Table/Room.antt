@@ -1,29 +1,32 @@
--- The program's text has room in 1,048,576 bytes: there are at most 231 classes and as many values to a class, and no
--- value has more than 14 digits, since none exceeds 16! in size. Of the other numbers 20 digits are enough to know.
---   room   how many bytes the program has
+-- The program's text has room: there are at most `mostPartitions` classes and as many values to a class, and no value
+-- has more than 14 digits, since none exceeds 16! in size. Of the other numbers 20 digits are enough to know.
+--   room             how many bytes the program has
 use mathlib.Core.Path.{_≡_, refl, sym, _∙_, ap}
 use Prim.Native.Nat.{_≤_, _<_}
 use native.Mathlib.Omega.{arith}
 use lib.ListN.{length-append, length-map}
-use borrow.Author.Tests.{leb-true, ltb-true, ltb-false}
+use borrow.Author.Tests.{leb-true, ltb-false}
 use Rattle.theory.specs.Basics.{not, List, [], _∷_, _++_, map, ℕ, zero, suc, _+_, _*_, _^_, ℤ, length, getD}
-use Rattle.theory.specs.Basics.{_=?_, _<?_, _≤?_, joined}
+use Rattle.theory.specs.Basics.{_=?_, _≤?_, joined}
 use Rattle.theory.specs.Basics.Laws.{Each, each-same, each-map, each-member}
-use Rattle.theory.specs.Basics.Places.{every-at}
-use Rattle.theory.specs.Basics.Joined.{joined-length}
+use Rattle.theory.specs.Basics.AtPlace.{every-at}
+use Rattle.theory.specs.Basics.Laws.{joined-length}
 use Rattle.theory.specs.Partition.{Parts}
 use Rattle.theory.specs.Partition.Laws.{no-zero, length-degree}
 use Rattle.theory.specs.Character.{_on_}
 use Rattle.theory.specs.ClassData.{classSize}
 use Rattle.theory.specs.Bounds.{factorial}
 use Rattle.theory.specs.Bounds.Laws.{factorial-rises}
-use Rattle.theory.specs.Bounds.Characters.{character-bounded}
-use Rattle.theory.specs.Listing.{listing, partitionCounts, column}
+use Rattle.theory.specs.Hooks.Bounds.{character-bounded}
+use Rattle.theory.specs.Listing.{listing, partitionCounts}
+use Rattle.theory.specs.Column.{column}
 use Rattle.theory.specs.Listing.Laws.{count-kept}
-use Rattle.theory.specs.Listing.Order.{Fits, each-listed}
-use Rattle.theory.specs.Listing.Columns.{column-length}
-use Rattle.theory.specs.Refusals.{Row, degreeLimit, firstOf, judged, no-12, no-13}
+use Rattle.theory.specs.Listing.Order.{UpTo, each-listed}
+use Rattle.theory.specs.Column.Laws.{column-length}
+use Rattle.theory.specs.Limits.{degreeLimit}
+use Rattle.theory.specs.Refusals.{Check, firstOf, refusedOr, no-12, no-13}
 use Rattle.theory.specs.Refusals.Laws.{none-applies}
+use Rattle.listing.specs.Private.Tables.{mostPartitions}
 use Rattle.tabletext.specs.Table.{Text, ascii, decimal, integer, commas, textLine, field}
 use Rattle.tabletext.specs.Table.{classText, classLines, table, asked, chartable}
 use Rattle.tabletext.specs.Table.Decimals.{decimal-most, integer-length}
@@ -44,20 +47,18 @@ abbrev Short : ℤ → Type 0
 Short z = length (integer z) ≤ 15
 
 module _ (n : ℕ) (h : n ≤ degreeLimit) where
-  pub listing-few : length (listing n) ≤ 231
+  pub listing-few : length (listing n) ≤ mostPartitions
   unfolding partitionCounts
-  listing-few = rw (count-kept n h) (leb-true _ 231 (every-at (_≤? 231) partitionCounts 0 n refl (omega arith)))
-
-  pub listing-some : 0 < length (listing n)
-  unfolding partitionCounts
-  listing-some = rw (count-kept n h) (ltb-true 0 _ (every-at (0 <?_) partitionCounts 0 n refl (omega arith)))
+  listing-few =
+      let few = every-at (_≤? mostPartitions) partitionCounts 0 n refl (omega arith) in
+      rw (count-kept n h) (leb-true _ mostPartitions few)
 
   factorial-small : factorial n < 10 ^ 14
   unfolding factorial
-  factorial-small = omega (arith, factorial-rises n 16 h)
+  factorial-small = omega (arith, factorial-rises n degreeLimit h)
 
-  module _ (class : Parts) (f : Fits n n class) where
-    value-short : (shape : Parts) → Fits n n shape → Short (shape on class)
+  module _ (class : Parts) (f : UpTo n n class) where
+    value-short : (shape : Parts) → UpTo n n shape → Short (shape on class)
     value-short shape g =
         let full = no-zero class (f .partition) in
         let small = character-bounded shape class (g .partition) full (g .whole ∙ sym (f .whole)) in
@@ -66,10 +67,10 @@ module _ (n : ℕ) (h : n ≤ degreeLimit) where
     each-value : Each Short (column class)
     unfolding column
     each-value =
-        let each = each-map (Fits n n) Short (_on class) (listing n) value-short (each-listed n) in
+        let each = each-map (UpTo n n) Short (_on class) (listing n) value-short (each-listed n) in
         rw (← f .whole) at each
 
-    values-short : length (commas (map integer (column class))) ≤ 231 * 16
+    values-short : length (commas (map integer (column class))) ≤ mostPartitions * 16
     values-short =
         let each = each-map Short (λ t. length t ≤ 15) integer (column class) (λ z s. s) each-value in
         omega (
@@ -81,7 +82,7 @@ module _ (n : ℕ) (h : n ≤ degreeLimit) where
           listing-few,
         )
 
-    parts-short : length (commas (map decimal class)) ≤ 16 * 21
+    parts-short : length (commas (map decimal class)) ≤ degreeLimit * 21
     parts-short =
         let parts = each-member (λ p. Unit {0}) class (λ p m. tt) in
         let each = each-map (λ p. Unit {0}) (λ t. length t ≤ 20) decimal class (λ p u. decimal-most p) parts in
@@ -119,7 +120,7 @@ module _ (n : ℕ) (h : n ≤ degreeLimit) where
       let c : Text = joined classLines (listing n) in
       let e : Text = field "end=" (decimal (length (listing n))) in
       let most : Parts → Type 0 = λ class. length (classLines class) ≤ 4100 in
-      let each = each-same (Fits n n) most (listing n) class-short (each-listed n) in
+      let each = each-same (UpTo n n) most (listing n) class-short (each-listed n) in
       omega (
         arith,
         length-append (d ++ k ++ c) e,
@@ -135,15 +136,15 @@ module _ (n : ℕ) (h : n ≤ degreeLimit) where
 -- ---- what the program writes
 pub chartable-short : (input : Text) → length (chartable degreeLimit input) ≤ room
 unfolding chartable
-chartable-short input = go (firstOf rows) refl
+chartable-short input = go (firstOf checks) refl
   where
     n : ℕ
     n = getD (asked input) 0 0
 
-    rows : List Row
-    rows = no-13 (not (length (asked input) =? 0)) ∷ no-12 degreeLimit n ∷ []
+    checks : List Check
+    checks = no-13 (not (length (asked input) =? 0)) ∷ no-12 degreeLimit n ∷ []
 
-    go : (k : ℕ) → firstOf rows ≡ k
-        → length (judged k (λ k. field "refused=" (decimal k)) (table n (listing n))) ≤ room
-    go zero e = table-short n (ltb-false degreeLimit n (none-applies rows refl e .1 .0))
+    go : (k : ℕ) → firstOf checks ≡ k
+        → length (refusedOr k (λ k. field "refused=" (decimal k)) (table n (listing n))) ≤ room
+    go zero e = table-short n (ltb-false degreeLimit n (none-applies checks refl e .1 .0))
     go (suc k) e = omega (arith, number-line (ascii "refused=") (suc k))

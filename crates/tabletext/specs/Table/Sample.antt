@@ -4,8 +4,9 @@ use Rattle.theory.specs.Basics.{true, _++_}
 use Rattle.theory.specs.Bounds.{factorial}
 use Rattle.theory.specs.Character.{character}
 use Rattle.theory.specs.ClassData.{classDivisor, classSize}
-use Rattle.theory.specs.Listing.{partitions, listing, same, column}
-use Rattle.theory.specs.Refusals.{degreeLimit}
+use Rattle.theory.specs.Listing.{partitions, listing, same}
+use Rattle.theory.specs.Column.{column}
+use Rattle.theory.specs.Limits.{degreeLimit}
 use Rattle.tabletext.specs.Table.{Text, ascii, decimal, integer, commas}
 use Rattle.tabletext.specs.Table.{classText, classLines, table, asked, chartable}
 use Rattle.tabletext.specs.Table.Asked.{same-text}

@@ -7,7 +7,7 @@ use lib.IntN.{+ℤ-assoc}
 use Rattle.theory.specs.Basics.{Bool, true, false, not, cond, List, [], _∷_, _++_, map, length, ℕ, suc, _+_}
 use Rattle.theory.specs.Basics.{ℤ, _+ℤ_, keep, every, total, sum}
 use Rattle.theory.specs.Basics.Laws.{both, Each}
-use Rattle.theory.specs.Character.Integers.{swap-front}
+use Rattle.theory.specs.Basics.Integers.{swap-front}
 
 -- two tests are the same if each passes where the other does
 pub same-test : (a b : Bool) → (a ≡ true → b ≡ true) → (b ≡ true → a ≡ true) → a ≡ b

@@ -2,12 +2,16 @@
 --   Each P xs   P holds of each element of xs
 use mathlib.Core.Path.{_≡_, refl, sym, _∙_, ap}
 use mathlib.Core.Bool.{false≢true}
-use mathlib.Core.List.{List·Memᴰ, List·Memᴰ·head, List·Memᴰ·tail}
+use mathlib.Core.List.{append-assoc, append-nil, List·Memᴰ, List·Memᴰ·head, List·Memᴰ·tail}
+use Prim.Native.Nat.{_≤_, _<_}
+use native.Mathlib.Nat.{add-zero, add-suc, suc-add}
 use native.Mathlib.Omega.{arith}
 use lib.Dec.{eqb}
+use lib.ListN.{length-append}
 use lib.IntN.{+ℤ-idl, +ℤ-assoc}
-use Rattle.theory.specs.Basics.{Bool, true, false, not, cond, _&&_, List, [], _∷_, _++_, map, length, ℕ, zero}
-use Rattle.theory.specs.Basics.{suc, _+_, _*_, _%_, ℤ, _+ℤ_, odd, keep, count, total, sum}
+use Rattle.theory.specs.Basics.{Bool, true, false, not, cond, _&&_, List, [], _∷_, _++_, map, length, getD, take}
+use Rattle.theory.specs.Basics.{ℕ, zero, suc, _+_, _*_, _%_, ℤ, _+ℤ_, odd, keep, count, joined}
+use Rattle.theory.specs.Basics.{total, sum, upFrom}
 
 -- ---- tests
 pub both : (a b : Bool) → a && b ≡ true → (a ≡ true) × (b ≡ true)
@@ -25,6 +29,16 @@ odd-suc n = go (n % 2) (suc n % 2) (omega arith)
         let h : b ≡ 0 = omega arith in
         rw h refl
     go (suc (suc a)) b e = absurd (omega arith)
+
+-- ---- numbers that go up
+up-from-last : (i n : ℕ) → upFrom i (suc n) ≡ upFrom i n ++ ((i + n) ∷ [])
+up-from-last i zero = rw add-zero
+up-from-last i (suc n) = rw (add-suc, ← suc-add) (ap (λ ns. i ∷ ns) (up-from-last (suc i) n))
+
+pub up-from-one : (n : ℕ) → upFrom 1 (suc n) ≡ upFrom 1 n ++ (suc n ∷ [])
+up-from-one n =
+    let e : 1 + n ≡ suc n = omega arith in
+    rw e at (up-from-last 1 n)
 
 -- ---- what holds of each element
 module _ {A : Type 0} where
@@ -74,6 +88,7 @@ module _ {A : Type 0} where
   sum-append f [] ys = sym (+ℤ-idl (sum f ys))
   sum-append f (x ∷ xs) ys = ap (λ z. f x +ℤ z) (sum-append f xs ys) ∙ sym (+ℤ-assoc (f x) (sum f xs) (sum f ys))
 
+-- a sign put before a sum
 module _ {A B : Type 0} where
   pub each-map : (P : A → Type 0) (Q : B → Type 0) (f : A → B) (xs : List A) → ((x : A) → P x → Q (f x)) → Each P xs
       → Each Q (map f xs)
@@ -92,3 +107,20 @@ module _ {A B : Type 0} where
   pub sum-map : (f : B → ℤ) (g : A → B) (xs : List A) → sum f (map g xs) ≡ sum (λ x. f (g x)) xs
   sum-map f g [] = refl
   sum-map f g (x ∷ xs) = ap (λ z. f (g x) +ℤ z) (sum-map f g xs)
+
+-- ---- lists joined one after the other, and the first of them
+module _ {A B : Type 0} (f : A → List B) where
+  pub joined-next : (xs : List A) (d : A) (i : ℕ) → i < length xs
+      → joined f (take (suc i) xs) ≡ joined f (take i xs) ++ f (getD xs i d)
+  joined-next [] d i h = absurd (omega arith)
+  joined-next (x ∷ xs) d zero h = append-nil (f x)
+  joined-next (x ∷ xs) d (suc i) h = rw (joined-next xs d i (omega arith)) (sym (append-assoc (f x) _ _))
+
+  pub joined-front : (xs : List A) (n : ℕ) → length (joined f (take n xs)) ≤ length (joined f xs)
+  joined-front xs zero = omega arith
+  joined-front [] (suc n) = omega arith
+  joined-front (x ∷ xs) (suc n) = simp length-append (omega (arith, joined-front xs n))
+
+  pub joined-length : (k : ℕ) (xs : List A) → Each (λ x. length (f x) ≤ k) xs → length (joined f xs) ≤ length xs * k
+  joined-length k [] e = omega arith
+  joined-length k (x ∷ xs) e = simp length-append (omega (arith, e .0, joined-length k xs (e .1)))

@@ -1,5 +1,6 @@
 -- Laws of sizes, and of the bounds: they rise with the degree, and what a line needs, the lines that its hooks leave
 -- can share. A line of degree d has k hooks of a length h, k at most d, and each leaves a line of degree d - h.
+--   largestLimit   20: the greatest limit on degrees that laws allow
 use mathlib.Core.Path.{_≡_, refl}
 use Prim.Native.Nat.{_≤_, zero-le}
 use native.Mathlib.Nat.{le-refl, le-trans, mul-le-mul}
@@ -8,10 +9,13 @@ use native.Mathlib.Omega.{arith}
 use lib.Dec.{ltb}
 use lib.IntN.{subℕ}
 use Rattle.theory.specs.Basics.{Bool, true, false, cond, List, [], _∷_, length, ℕ, zero, suc, _+_, _-_, _*_, sum}
-use Rattle.theory.specs.Basics.{ℤ, pos, negsuc, _+ℤ_, negℤ, natAbs}
+use Rattle.theory.specs.Basics.{ℤ, pos, negsuc, _+ℤ_, negℤ, natAbs, signed}
 use Rattle.theory.specs.Basics.Laws.{Each}
-use Rattle.theory.specs.Hooks.{signed}
 use Rattle.theory.specs.Bounds.{factorial, S}
+
+-- up to this limit every number has room in 64 bits, and laws ask for no more than that
+abbrev pub largestLimit : ℕ
+largestLimit = 20
 
 -- ---- sizes of sums
 abs-difference : (a b : ℕ) → natAbs (subℕ a (suc b)) ≤ a + suc b

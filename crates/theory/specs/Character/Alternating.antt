@@ -6,7 +6,7 @@
 --   Stable f         f of raised l is f of l
 use mathlib.Core.Path.{_≡_}
 use Rattle.theory.specs.Basics.{List, [], _∷_, _++_, map, ℕ, ℤ, pos, negsuc, _+ℤ_, negℤ}
-use Rattle.theory.specs.Character.Integers.{own-opposite}
+use Rattle.theory.specs.Basics.Integers.{own-opposite}
 
 pub data Swap : List ℤ → List ℤ → Type 0 where
   here : (x y : ℤ) (l : List ℤ) → Swap (x ∷ y ∷ l) (y ∷ x ∷ l)

@@ -11,7 +11,7 @@ use Rattle.theory.specs.Basics.{List, [], _∷_, _++_, ℕ, zero, suc, l
 use Rattle.theory.specs.Basics.{ℤ, pos, negsuc, _+ℤ_, negℤ, natAbs}
 use Rattle.theory.specs.Basics.Laws.{Each, each-map, sum-map, sum-same}
 use Rattle.theory.specs.Character.{struck, trimmed}
-use Rattle.theory.specs.Character.Integers.{swap-back}
+use Rattle.theory.specs.Basics.Integers.{swap-back}
 use Rattle.theory.specs.Character.Alternating.{raisedBy, Stable}
 use Rattle.theory.specs.Character.Lowered.{lowered, lowered-cons}
 

@@ -12,7 +12,7 @@ use native.Mathlib.Omega.{arith}
 use lib.IntN.{sucℤ, +ℤ-one, +ℤ-idr}
 use Rattle.theory.specs.Basics.{List, [], _∷_, _++_, ℕ, zero, suc, _+_, length}
 use Rattle.theory.specs.Basics.{ℤ, pos, negsuc, _+ℤ_, _-ℤ_, negℤ}
-use Rattle.theory.specs.Character.Integers.{difference-back, difference-one-more}
+use Rattle.theory.specs.Basics.Integers.{difference-back, difference-one-more}
 use Rattle.theory.specs.Character.Alternating.{Swap, here, later, Alternating, ZeroBelow, raised, Stable}
 
 -- ---- factors
@@ -52,8 +52,8 @@ minusOne · none = none
 
 ruleset products = (·-assoc, ·-comm, ·-swap)
 
-exchanged : (a b s p q w : Factor) → b · ((minusOne · s) · q) · a · p · w ≡ minusOne · a · (s · p) · b · q · w
-exchanged a b s p q w = simp products
+factors-exchanged : (a b s p q w : Factor) → b · ((minusOne · s) · q) · a · p · w ≡ minusOne · a · (s · p) · b · q · w
+factors-exchanged a b s p q w = simp products
 
 turned : (a p w : Factor) → a · p · minusOne · w ≡ minusOne · a · p · w
 turned a p w = simp products
@@ -111,7 +111,7 @@ past-swap x l k (later y {l = l₁} {k = k₁} s) = ap (λ t. sign (x -ℤ y) ·
 weigh-swap : (n : ℕ) (l k : List ℤ) → Swap l k → weigh n k ≡ minusOne · weigh n l
 unfolding weigh past
 weigh-swap n l k (here x y t) = rw (← (difference-back x y), sign-turned (x -ℤ y))
-    (exchanged (within n x) (within n y) (sign (x -ℤ y)) (past x t) (past y t) (weigh n t))
+    (factors-exchanged (within n x) (within n y) (sign (x -ℤ y)) (past x t) (past y t) (weigh n t))
 weigh-swap n l k (later x {l = l₁} {k = k₁} s) = rw (past-swap x l₁ k₁ s, weigh-swap n l₁ k₁ s)
     (turned (within n x) (past x l₁) (weigh n l₁))
 

@@ -6,7 +6,7 @@ use Rattle.theory.specs.Basics.{List, [], _∷_, _++_, ℕ, suc, _+_, su
 use Rattle.theory.specs.Basics.{ℤ, pos, negsuc, _+ℤ_, _-ℤ_, negℤ}
 use Rattle.theory.specs.Basics.Laws.{sum-map}
 use Rattle.theory.specs.Character.{struck}
-use Rattle.theory.specs.Character.Integers.{sums, signed-sums, swap-back, negsuc-less}
+use Rattle.theory.specs.Basics.Integers.{sums, signed-sums, swap-back, negsuc-less}
 use Rattle.theory.specs.Character.Alternating.{Alternating, here, later, alternating-after, ZeroBelow, raised}
 
 unfoldable pub lowered : ℕ → (List ℤ → ℤ) → List ℤ → ℤ

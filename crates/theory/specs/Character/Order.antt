@@ -2,8 +2,8 @@
 -- followed nor on that of the cycles (document 01, "The character", first paragraph).
 use mathlib.Core.Path.{_≡_, refl, sym, _∙_, ap, fun-ext}
 use Rattle.theory.specs.Basics.{true, List, [], _∷_, map, ℕ, suc, sum, ℤ, pos}
-use Rattle.theory.specs.Partition.{Parts, isPartition, times}
-use Rattle.theory.specs.Partition.Laws.{NoZero, no-zero, none, some}
+use Rattle.theory.specs.Partition.{Parts, isPartition, degree, times}
+use Rattle.theory.specs.Partition.Laws.{NoZero, no-zero, none, some, no-degree}
 use Rattle.theory.specs.Character.{Term, value, struck, sorted, trimmed, character, _on_}
 use Rattle.theory.specs.Character.Terms.{value-same}
 use Rattle.theory.specs.Character.Ground.{ground-none, ground-above}
@@ -49,3 +49,9 @@ any-order s c d e kc kd same =
     positive : {ps : Parts} → NoZero ps → PositiveFirst (map pos ps)
     positive none = tt
     positive (some {p = p} k) = (p, refl)
+
+-- ---- empty shape on empty class is 1, and no other partitions have the degree 0
+pub empty-on-empty : (s c : Parts) → isPartition s ≡ true → isPartition c ≡ true → degree s ≡ 0 → degree c ≡ 0
+    → s on c ≡ pos 1
+unfolding character
+empty-on-empty s c p q d e = rw (no-degree s p d, no-degree c q e)

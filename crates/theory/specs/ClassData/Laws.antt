@@ -75,8 +75,8 @@ different-other q (p ∷ ps) h = elim (ℕ-discrete p q) [
     go false f e = e
 
 -- what a part length gives to the divisor
-abbrev weight : Parts → ℕ → ℕ
-weight ps p = p ^ times p ps * factorial (times p ps)
+abbrev factorOf : Parts → ℕ → ℕ
+factorOf ps p = p ^ times p ps * factorial (times p ps)
 
 divisor-block : (q t : ℕ) (ps : Parts) → times q ps ≡ 0
     → classDivisor (replicate t q ++ ps) ≡ q ^ t * factorial t * classDivisor ps
@@ -85,9 +85,9 @@ divisor-block q zero ps h = unfold factorial in rw pow-zero (omega arith)
 divisor-block q (suc t) ps h =
     let qs : Parts = replicate (suc t) q ++ ps in
     let n : times q qs ≡ suc t = omega (arith, times-same q ps (suc t)) in
-    let other : (p : ℕ) → (p ≡ q → ⊥) → weight qs p ≡ weight ps p = λ p f. rw (times-other q ps p (suc t) f) in
-    ap (λ (l : Parts). product (map (weight qs) l)) (different-block q ps t h)
-    ∙ rw (n, map-same (λ p. p ≡ q → ⊥) (weight qs) (weight ps) (different ps) other (different-other q ps h))
+    let other : (p : ℕ) → (p ≡ q → ⊥) → factorOf qs p ≡ factorOf ps p = λ p f. rw (times-other q ps p (suc t) f) in
+    ap (λ (l : Parts). product (map (factorOf qs) l)) (different-block q ps t h)
+    ∙ rw (n, map-same (λ p. p ≡ q → ⊥) (factorOf qs) (factorOf ps) (different ps) other (different-other q ps h))
 
 -- ---- the divisor by one reading
 abbrev pub occurrence : ℕ → ℕ → ℕ → ℕ

@@ -1,32 +1,38 @@
 -- Class words, there and back: one word to a partition, and one partition to a word (document 01, "Class word").
 --   Held ps       ps is a partition whose digits have room in a word: its degree is at most 31
---   GoodClass w   w is a good class word of 32 bits
+--   GoodClass w   w is a good class word, as a record
 --   OneToOne      held partitions and good class words answer to each other, one to one
 use mathlib.Core.Path.{_≡_, refl, sym, _∙_, ap}
 use Prim.Native.Nat.{_≤_, _<_}
-use native.Mathlib.Nat.{zero-add, add-zero, add-suc, suc-add, div-eq-of-lt}
+use native.Mathlib.Nat.{zero-add, add-zero, add-suc, suc-add}
 use native.Mathlib.Omega.{arith}
-use borrow.Author.Tests.{not-true, eqb-false}
+use borrow.Author.Tests.{ltb-true, lt-ltb, le-ltb}
 use lib.Pow.{pow-pos, pow-mono}
-use Rattle.theory.specs.Basics.{true, false, not, [], _∷_, ℕ, zero, suc, _+_, _-_, _/_, _%_, _^_, length}
+use Rattle.theory.specs.Basics.{true, false, [], _∷_, _++_, replicate, length, ℕ, zero, suc, _+_, _-_, _^_, _<?_}
 use Rattle.theory.specs.Basics.Laws.{both}
 use Rattle.theory.specs.Partition.{Parts, isPartition, degree, times, without}
 use Rattle.theory.specs.Partition.Laws.{NoZero, none, some, no-zero, without-partition, without-degree}
-use Rattle.theory.specs.Digits.{Digits, bit, digits, word, width}
+use Rattle.theory.specs.Digits.{Digits, digits, word, width}
 use Rattle.theory.specs.Digits.Laws.{digits-zero, digits-one, length-digits, word-below, word-none, word-digits}
 use Rattle.theory.specs.ClassWord.{classDigits, partsAfter, classWord, classOf, goodClass}
-use Rattle.theory.specs.ClassWord.Front.{word-front}
+
+-- ---- what the first part gives to the word
+pub word-one : (z n : ℕ) (ds : Digits) → word (suc (z + n)) (replicate z false ++ true ∷ ds) ≡ 2 ^ n + word n ds
+unfolding word
+word-one zero n ds = rw zero-add
+word-one (suc z) n ds = rw suc-add (word-one z n ds)
+
+pub class-word-front : (n p : ℕ) (ps : Parts) → 0 < p → p ≤ n
+    → word n (classDigits (p ∷ ps)) ≡ 2 ^ (n - p) + word (n - p) (classDigits ps)
+class-word-front n p ps h l =
+    let e : n ≡ suc (p - 1 + (n - p)) = omega arith in
+    ap (λ (m : ℕ). word m (classDigits (p ∷ ps))) e ∙ word-one (p - 1) (n - p) (classDigits ps)
 
 -- ---- the parts that digits give
 pub parts-no-zero : (z : ℕ) (ds : Digits) → NoZero (partsAfter z ds)
 parts-no-zero z [] = none
 parts-no-zero z (false ∷ ds) = parts-no-zero (suc z) ds
 parts-no-zero z (true ∷ ds) = some (parts-no-zero 0 ds)
-
-pub length-parts : (z : ℕ) (ds : Digits) → length (partsAfter z ds) ≤ length ds
-length-parts z [] = omega arith
-length-parts z (false ∷ ds) = omega (arith, length-parts (suc z) ds)
-length-parts z (true ∷ ds) = omega (arith, length-parts 0 ds)
 
 pub degree-parts : (z : ℕ) (ds : Digits) → degree (partsAfter z ds) ≤ z + length ds
 degree-parts z [] = omega arith
@@ -54,7 +60,7 @@ parts-word n none h = rw (word-none n) (parts-none 0 n)
 parts-word n (some {p = p} {ps = ps} f) h =
     let m : ℕ = n - suc p in
     let e : n ≡ suc (p + m) = omega arith in
-    rw (word-front n (suc p) ps (omega arith) (omega arith))
+    rw (class-word-front n (suc p) ps (omega arith) (omega arith))
     (ap (λ (k : ℕ). partsAfter 0 (digits k (2 ^ m + word m (classDigits ps)))) e
     ∙ parts-front 0 p m (word m (classDigits ps)) (word-below m (classDigits ps))
     ∙ rw (zero-add, parts-word m f (omega arith)))
@@ -66,7 +72,7 @@ word-parts-after z (false ∷ ds) = rw (add-suc, ← suc-add) (word-parts-after 
 word-parts-after z (true ∷ ds) =
     let n : ℕ = length ds in
     let e : z + suc n - suc z ≡ n = omega arith in
-    rw (word-front (z + suc n) (suc z) (partsAfter 0 ds) (omega arith) (omega arith), e)
+    rw (class-word-front (z + suc n) (suc z) (partsAfter 0 ds) (omega arith) (omega arith), e)
     (ap (λ (k : ℕ). 2 ^ n + k) (rw zero-add at (word-parts-after 0 ds)))
 
 pub word-parts : (n x : ℕ) → x < 2 ^ n → word n (classDigits (partsAfter 0 (digits n x))) ≡ x
@@ -78,26 +84,27 @@ pub record Held (ps : Parts) : Type 0 where
   pub room : degree ps ≤ width
 
 pub record GoodClass (w : ℕ) : Type 0 where
-  pub below : w < 2 ^ 32
-  pub accepted : goodClass w ≡ true
+  pub below : w < 2 ^ width
+  pub partition : isPartition (classOf w) ≡ true
 
-pub good-below : {w : ℕ} → GoodClass w → w < 2 ^ width
-good-below {w} g =
-    let b = not-true (bit 31 w) (both (not (bit 31 w)) _ (g .accepted) .0) in
-    omega (arith, g .below, eqb-false (w / 2 ^ 31 % 2) 1 b)
+pub good-class : (w : ℕ) → goodClass w ≡ true → GoodClass w
+good-class w e =
+    let b = both (w <? 2 ^ width) (isPartition (classOf w)) e in
+    record { below = ltb-true w (2 ^ width) (b .0); partition = b .1 }
 
--- a number of 31 digits is good where its parts are a partition, one with bit 31 never
+pub class-good : {w : ℕ} → GoodClass w → goodClass w ≡ true
+class-good {w} g = rw (lt-ltb w (2 ^ width) (g .below)) (g .partition)
+
+-- a number of 31 digits is good where its parts are a partition, a larger one never
 pub good-of-below : (w : ℕ) → w < 2 ^ width → goodClass w ≡ isPartition (classOf w)
-good-of-below w h = rw (div-eq-of-lt h)
+good-of-below w h = rw (lt-ltb w (2 ^ width) h)
 
-pub bad-above : (w : ℕ) → 2 ^ width ≤ w → w < 2 ^ 32 → goodClass w ≡ false
-bad-above w l h =
-    let one : w / 2 ^ 31 % 2 ≡ 1 = omega arith in
-    rw one
+pub bad-above : (w : ℕ) → 2 ^ width ≤ w → goodClass w ≡ false
+bad-above w l = rw (le-ltb w (2 ^ width) l)
 
 pub class-held : {w : ℕ} → GoodClass w → Held (classOf w)
 class-held {w} g = record {
-  partition = both (not (bit 31 w)) _ (g .accepted) .1;
+  partition = g .partition;
   room = omega (arith, degree-parts 0 (digits width w), length-digits width w);
 }
 
@@ -108,12 +115,10 @@ pub word-of-class : {w : ℕ} → w < 2 ^ width → classWord (classOf w) ≡ w
 word-of-class {w} h = word-parts width w h
 
 pub word-good : {ps : Parts} → Held ps → GoodClass (classWord ps)
-word-good {ps} h =
-    let l : classWord ps < 2 ^ width = word-below width (classDigits ps) in
-    record {
-      below = omega arith;
-      accepted = good-of-below (classWord ps) l ∙ ap isPartition (class-of-word h) ∙ h .partition;
-    }
+word-good {ps} h = record {
+  below = word-below width (classDigits ps);
+  partition = ap isPartition (class-of-word h) ∙ h .partition;
+}
 
 -- one word to a partition, and one partition to a word
 pub record OneToOne : Type 0 where
@@ -125,9 +130,9 @@ pub record OneToOne : Type 0 where
 pub one-to-one : OneToOne
 one-to-one = record {
   to-word = λ h. (word-good h, class-of-word h);
-  to-class = λ g. (class-held g, word-of-class (good-below g));
+  to-class = λ g. (class-held g, word-of-class (g .below));
   same-class = λ h k e. sym (class-of-word h) ∙ ap classOf e ∙ class-of-word k;
-  same-word = λ g k e. sym (word-of-class (good-below g)) ∙ ap classWord e ∙ word-of-class (good-below k);
+  same-word = λ g k e. sym (word-of-class (g .below)) ∙ ap classWord e ∙ word-of-class (k .below);
 }
 
 -- ---- a cycle taken out

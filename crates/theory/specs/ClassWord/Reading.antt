@@ -1,14 +1,12 @@
 -- Reading a class word (document 01, "Reading counts leading zeros again and again"), at any width W: 31 of a 32-bit
 -- word, 63 of a 64-bit word. Leading zeros give the next part, trailing zeros the degree.
---   Next W at x z b   the next part when `at` of the W digits are read and the number x is left: z are the leading
---                     zeros of x, b is the one behind them, the part is z - at; b comes off, and z digits are read
---   Struck W x z      the first part of x is z, its leading zeros: one shift that drops the top bits strikes it
---   Shifted W x z     the same where x stands at the top: the part is z + 1, and two shifts take it out
+--   NextPart W at x z b   the next part when `at` of the W digits are read and the number x is left: z are the leading
+--                         zeros of x, b is the one behind them, the part is z - at; b comes off, and z digits are read
+--   FirstPart W x z       the first part of x is z, its leading zeros: one shift that drops the top bits takes it out
 use mathlib.Core.Path.{_≡_, refl, ap, ap₂, _∙_}
 use Prim.Native.Nat.{_≤_, _<_}
-use native.Mathlib.Nat.{zero-add, add-zero, add-suc, add-comm, suc-sub-suc, mul-one, pow-suc}
+use native.Mathlib.Nat.{add-zero, add-suc, suc-sub-suc, mul-one, pow-suc}
 use native.Mathlib.Nat.{lt-of-lt-of-le, lt-of-le-of-lt, lt-of-not-le, not-le-of-lt}
-use native.Mathlib.Numerals.{add-one}
 use native.Mathlib.Omega.{arith}
 use lib.Pow.{pow-pos, pow-mono, pow-add, shl-lt}
 use lib.Count.{leadingZeros, leading-top, trailingZeros}
@@ -21,7 +19,7 @@ use Rattle.theory.specs.Digits.Low.{digits-last, low-zero, low-one, lowe
 use Rattle.theory.specs.ClassWord.{classDigits, partsAfter}
 use Rattle.theory.specs.ClassWord.Laws.{parts-front, word-parts}
 
-pub record Next (W at x z b : ℕ) : Type 0 where
+pub record NextPart (W at x z b : ℕ) : Type 0 where
   pub above : at < z
   pub within : z ≤ W
   pub one : 0 < b
@@ -30,12 +28,12 @@ pub record Next (W at x z b : ℕ) : Type 0 where
   pub reads : partsAfter 0 (digits (W - at) x) ≡ (z - at) ∷ partsAfter 0 (digits (W - z) (x - b))
 
 -- the one behind z zeros is what `1 << (W - z)` gives
-pub next : (W at x : ℕ) → 0 < x → x < 2 ^ (W - at)
-    → Next W at x (leadingZeros (suc W) x) (1 * 2 ^ (W - leadingZeros (suc W) x) % 2 ^ suc W)
-next W at x p h = go (leadingZeros (suc W) x) (leading-top (suc W) x p (lt-of-lt-of-le h (pow-mono (omega arith))))
+pub next-part : (W at x : ℕ) → 0 < x → x < 2 ^ (W - at)
+    → NextPart W at x (leadingZeros (suc W) x) (1 * 2 ^ (W - leadingZeros (suc W) x) % 2 ^ suc W)
+next-part W at x p h = go (leadingZeros (suc W) x) (leading-top (suc W) x p (lt-of-lt-of-le h (pow-mono (omega arith))))
   where
     go : (z : ℕ) → (j : ℕ) × (z + suc j ≡ suc W) × (2 ^ j ≤ x) × (x < 2 ^ suc j)
-        → Next W at x z (1 * 2 ^ (W - z) % 2 ^ suc W)
+        → NextPart W at x z (1 * 2 ^ (W - z) % 2 ^ suc W)
     go z (j, e, lo, hi) =
         let digit : W - z ≡ j = omega arith in
         let b : 1 * 2 ^ (W - z) % 2 ^ suc W ≡ 2 ^ j = rw digit (one-shifted (suc W) j (omega arith)) in
@@ -74,7 +72,7 @@ class-degree (suc n) x = elim (lowest-digit n x) [
   | low-one e d t ↦ rw (t, d) (omega (arith, degree-one 0 (digits n (x / 2)), length-digits n (x / 2)))
 ]
 
--- ---- reading by shifts: what is left stands at the top of a word of W + 1 bits
+-- ---- digits moved up
 parts-double : (n x : ℕ) → partsAfter 0 (digits (suc n) (x * 2)) ≡ partsAfter 0 (digits n x)
 parts-double n x =
     let half : x * 2 / 2 ≡ x = omega arith in
@@ -91,15 +89,7 @@ parts-shift n (suc k) x =
 pub word-moved : (n k x : ℕ) → x < 2 ^ n → word (n + k) (classDigits (partsAfter 0 (digits n x))) ≡ x * 2 ^ k
 word-moved n k x h = rw (← parts-shift n k x) (word-parts (n + k) (x * 2 ^ k) (shl-lt n k h))
 
-abbrev pub Shifted : ℕ → ℕ → ℕ → Type 0
-Shifted W x z =
-    partsAfter 0 (digits (suc W) x) ≡ (z + 1) ∷ partsAfter 0 (digits (suc W) (x * 2 ^ z % 2 ^ suc W * 2 % 2 ^ suc W))
-
--- a word of W digits, moved to the top
-pub shift-start : (W x : ℕ) → partsAfter 0 (digits (suc W) (x * 2 % 2 ^ suc W)) ≡ partsAfter 0 (digits W x)
-shift-start W x = rw digits-rest (parts-double W x)
-
--- the first shift moves the top one to bit W, the second drops it
+-- moved up so that its top one is bit W, a number keeps below it what stood behind that one
 one-out : (j z r : ℕ) → r < 2 ^ j → digits (j + z) ((2 ^ j + r) * 2 ^ z % 2 ^ suc (j + z)) ≡ digits (j + z) (r * 2 ^ z)
 unfolding digits
 one-out j z r h =
@@ -107,31 +97,16 @@ one-out j z r h =
     let d = digits-rest (suc (j + z)) ((2 ^ j + r) * 2 ^ z) in
     ap (drop 1) (d ∙ ap (digits (suc (j + z))) e ∙ digits-one (j + z) (r * 2 ^ z) (shl-lt j z h))
 
-shift-one : (j z r : ℕ) → r < 2 ^ j → Shifted (j + z) (2 ^ j + r) z
-shift-one j z r h =
-    let s = shift-start (j + z) ((2 ^ j + r) * 2 ^ z % 2 ^ suc (j + z)) in
-    let p = parts-front 0 z j r h in
-    rw (s, one-out j z r h, parts-shift j z r, add-one z) (rw (zero-add, add-comm z j) at p)
-
-pub shift-next : (W x : ℕ) → 0 < x → x < 2 ^ suc W → Shifted W x (leadingZeros (suc W) x)
-shift-next W x p h = go (leadingZeros (suc W) x) (leading-top (suc W) x p h)
-  where
-    go : (z : ℕ) → (j : ℕ) × (z + suc j ≡ suc W) × (2 ^ j ≤ x) × (x < 2 ^ suc j) → Shifted W x z
-    go z (j, e, lo, hi) =
-        let size : j + z ≡ W = omega arith in
-        let whole : 2 ^ j + (x - 2 ^ j) ≡ x = omega arith in
-        rw (size, whole) at (shift-one j z (x - 2 ^ j) (omega arith))
-
--- ---- striking the first part
-pub record Struck (W x z : ℕ) : Type 0 where
+-- ---- the first part taken out
+pub record FirstPart (W x z : ℕ) : Type 0 where
   pub some : 0 < z
   pub within : z ≤ W
   pub reads : partsAfter 0 (digits W x) ≡ z ∷ partsAfter 0 (digits W (x * 2 ^ z % 2 ^ suc W % 2 ^ W))
 
-pub strike : (W x : ℕ) → 0 < x → x < 2 ^ W → Struck W x (leadingZeros (suc W) x)
-strike W x p h = go (leadingZeros (suc W) x) (leading-top (suc W) x p (omega arith))
+pub first-part : (W x : ℕ) → 0 < x → x < 2 ^ W → FirstPart W x (leadingZeros (suc W) x)
+first-part W x p h = go (leadingZeros (suc W) x) (leading-top (suc W) x p (omega arith))
   where
-    go : (z : ℕ) → (j : ℕ) × (z + suc j ≡ suc W) × (2 ^ j ≤ x) × (x < 2 ^ suc j) → Struck W x z
+    go : (z : ℕ) → (j : ℕ) × (z + suc j ≡ suc W) × (2 ^ j ≤ x) × (x < 2 ^ suc j) → FirstPart W x z
     go z (j, e, lo, hi) =
         let size : j + z ≡ W = omega arith in
         let unread : j < W = lt-of-not-le (λ (g : W ≤ j). not-le-of-lt (lt-of-le-of-lt lo h) (pow-mono g)) in

@@ -5,7 +5,7 @@ use mathlib.Core.Path.{_≡_, refl, sym, _∙_, ap}
 use mathlib.Core.List.{List·Memᴰ}
 use native.Mathlib.Omega.{arith}
 use borrow.Author.Tests.{eq-eqb}
-use Rattle.theory.specs.Basics.{[], _∷_, ℕ, suc, ℤ, pos, sum}
+use Rattle.theory.specs.Basics.{[], _∷_, ℕ, suc, ℤ, pos, sum, signed}
 use Rattle.theory.specs.Basics.Laws.{each-member, each-of, sum-same}
 use Rattle.theory.specs.Partition.{Parts, degree, times, without}
 use Rattle.theory.specs.Partition.Laws.{NoZero, none, some, no-zero-without, times-own, no-degree}
@@ -13,7 +13,7 @@ use Rattle.theory.specs.Digits.{Digits}
 use Rattle.theory.specs.ShapeWord.{rows}
 use Rattle.theory.specs.ShapeWord.Laws.{rows-partition}
 use Rattle.theory.specs.Character.{character, _on_}
-use Rattle.theory.specs.Hooks.{Hook, hooks, shifted, signed}
+use Rattle.theory.specs.Hooks.{Hook, hooks, shifted}
 use Rattle.theory.specs.Hooks.Laws.{Exchange, exchanges, exchange-degree}
 use Rattle.theory.specs.Hooks.Rule.{hook-rule}
 

@@ -8,7 +8,8 @@ use native.Mathlib.Omega.{arith}
 use lib.Pow.{pow-pos}
 use lib.ListN.{length-append, length-map, length-take, take-append-drop, drop-of-length-le}
 use borrow.Author.Tests.{eq-eqb, ne-eqb}
-use Rattle.theory.specs.Basics.{Bool, true, false, [], _∷_, _++_, take, drop, length, ℕ, zero, suc, _+_, _^_}
+use Rattle.theory.specs.Basics.{Bool, true, false, List, [], _∷_, _++_, take, drop, length}
+use Rattle.theory.specs.Basics.{ℕ, zero, suc, _+_, _^_}
 use Rattle.theory.specs.Basics.Laws.{Each, each-append, each-map}
 use Rattle.theory.specs.Partition.{degree}
 use Rattle.theory.specs.Partition.Laws.{length-degree}
@@ -16,7 +17,8 @@ use Rattle.theory.specs.Digits.{Digits, word, ones}
 use Rattle.theory.specs.Digits.Laws.{word-below}
 use Rattle.theory.specs.ShapeWord.{rows, pairs}
 use Rattle.theory.specs.ShapeWord.Laws.{rows-none, rows-partition, degree-pairs}
-use Rattle.theory.specs.Hooks.{Hook, led, hookOver, hooks, shifted}
+use Rattle.theory.specs.Hooks.{Hook, hooks, shifted}
+use Rattle.theory.specs.Hooks.Walk.{led, hookOver, hooks-none, hooks-one, hooks-zero, no-length}
 
 pub record Exchange (h : ℕ) (ds : Digits) (hook : Hook Digits) : Type 0 where
   pub lower : pairs (hook .leaves) + h ≡ pairs ds
@@ -49,13 +51,12 @@ exchange-over between (true ∷ after) = (
   tt,
 )
 
-exchange-first : (between : ℕ) (ds : Digits)
-    → Each (Exchange (suc between) (false ∷ ds)) (hookOver (take between ds) (drop between ds))
-exchange-first between ds = elim (decLt between (length ds)) [
+exchange-first : (k : ℕ) (ds : Digits) → Each (Exchange (suc k) (false ∷ ds)) (hookOver (take k ds) (drop k ds))
+exchange-first k ds = elim (decLt k (length ds)) [
   | yes l ↦
-      let e : length (take between ds) ≡ between = omega (arith, length-take between ds) in
-      rw (e, take-append-drop between ds) at (exchange-over (take between ds) (drop between ds))
-  | no g ↦ rw (drop-of-length-le ds {i = between} (omega arith)) tt
+      let e : length (take k ds) ≡ k = omega (arith, length-take k ds) in
+      rw (e, take-append-drop k ds) at (exchange-over (take k ds) (drop k ds))
+  | no g ↦ rw (drop-of-length-le ds {i = k} (omega arith)) tt
 ]
 
 exchange-led : {h : ℕ} {ds : Digits} (d : Bool) (hook : Hook Digits) → Exchange h ds hook
@@ -67,17 +68,13 @@ exchange-led false hook e =
 
 -- a hook of length h keeps the number of digits, and the degree falls by h
 pub exchanges : (h : ℕ) (ds : Digits) → Each (Exchange h ds) (hooks h ds)
-unfolding hooks
-exchanges zero ds = tt
-exchanges (suc between) [] = tt
-exchanges (suc between) (true ∷ ds) =
-    each-map (Exchange (suc between) ds) _ (led true) (hooks (suc between) ds)
-    (exchange-led true) (exchanges (suc between) ds)
-exchanges (suc between) (false ∷ ds) =
-    each-append (Exchange (suc between) (false ∷ ds)) (hookOver (take between ds) (drop between ds)) _
-    (exchange-first between ds)
-    (each-map (Exchange (suc between) ds) _ (led false) (hooks (suc between) ds)
-    (exchange-led false) (exchanges (suc between) ds))
+exchanges zero ds = rw (no-length ds) tt
+exchanges (suc k) [] = rw (hooks-none (suc k)) tt
+exchanges (suc k) (true ∷ ds) = rw (hooks-one (suc k) ds)
+    (each-map (Exchange (suc k) ds) _ (led true) (hooks (suc k) ds) (exchange-led true) (exchanges (suc k) ds))
+exchanges (suc k) (false ∷ ds) = rw (hooks-zero k ds)
+    (each-append (Exchange (suc k) (false ∷ ds)) (hookOver (take k ds) (drop k ds)) _ (exchange-first k ds)
+    (each-map (Exchange (suc k) ds) _ (led false) (hooks (suc k) ds) (exchange-led false) (exchanges (suc k) ds)))
 
 -- ---- how many hooks there are
 few-over : (between after : Digits)
@@ -94,22 +91,22 @@ ones-drop (suc n) (false ∷ ds) = ones-drop n ds
 
 -- a row has one hook of a length at most
 pub hooks-rows : (h : ℕ) (ds : Digits) → length (hooks h ds) ≤ length (rows ds)
-unfolding hooks
-hooks-rows zero ds = omega arith
-hooks-rows (suc between) [] = omega arith
-hooks-rows (suc between) (true ∷ ds) =
-    rw (length-map (hooks (suc between) ds) (led true)) (hooks-rows (suc between) ds)
-hooks-rows (suc between) (false ∷ ds) =
-    let few = few-over (take between ds) (drop between ds) in
-    let rest = hooks-rows (suc between) ds in
-    rw (length-append (hookOver (take between ds) (drop between ds)) _, length-map (hooks (suc between) ds) (led false))
+hooks-rows zero ds = rw (no-length ds) (omega arith)
+hooks-rows (suc k) [] = rw (hooks-none (suc k)) (omega arith)
+hooks-rows (suc k) (true ∷ ds) =
+    rw (hooks-one (suc k) ds, length-map (hooks (suc k) ds) (led true)) (hooks-rows (suc k) ds)
+hooks-rows (suc k) (false ∷ ds) =
+    let first : List (Hook Digits) = hookOver (take k ds) (drop k ds) in
+    let few = few-over (take k ds) (drop k ds) in
+    let rest = hooks-rows (suc k) ds in
+    rw (hooks-zero k ds, length-append first _, length-map (hooks (suc k) ds) (led false))
     (elim (ℕ-discrete (ones ds) 0) [
-      | yes e ↦ rw (eq-eqb (ones ds) 0 e) (omega (arith, ones-drop between ds, ap length (rows-none ds e)))
+      | yes e ↦ rw (eq-eqb (ones ds) 0 e) (omega (arith, ones-drop k ds, ap length (rows-none ds e)))
       | no f ↦ rw (ne-eqb (ones ds) 0 f) (omega arith)
     ])
 
-pub hooks-few : (h : ℕ) (ds : Digits) → length (hooks h ds) ≤ degree (rows ds)
-hooks-few h ds = le-trans (hooks-rows h ds) (length-degree (rows ds) (rows-partition ds))
+pub hooks-by-degree : (h : ℕ) (ds : Digits) → length (hooks h ds) ≤ degree (rows ds)
+hooks-by-degree h ds = le-trans (hooks-rows h ds) (length-degree (rows ds) (rows-partition ds))
 
 -- ---- leading ones shifted out
 -- a zero is then in front, so the word is good

@@ -10,7 +10,7 @@ use lib.ListN.{length-map, length-drop, drop-of-length-le}
 use lib.Seq.{drop-cons, split-at}
 use lib.IntN.{negℤ-negℤ, +ℤ-idr}
 use Rattle.theory.specs.Basics.{Bool, true, false, not, List, [], _∷_, _++_, map, take, drop, length, getD}
-use Rattle.theory.specs.Basics.{ℕ, zero, suc, _-_, ℤ, pos, negsuc, _-ℤ_, negℤ, odd, sum}
+use Rattle.theory.specs.Basics.{ℕ, zero, suc, _-_, ℤ, pos, negsuc, _-ℤ_, negℤ, odd, sum, signed}
 use Rattle.theory.specs.Basics.Laws.{odd-suc, sum-same, sum-append, sum-map}
 use Rattle.theory.specs.Partition.{Parts, times, without}
 use Rattle.theory.specs.Partition.Laws.{NoZero, split, no-zero-without, times-zero}
@@ -21,7 +21,8 @@ use Rattle.theory.specs.Character.Alternating.{here, Alternating, altern
 use Rattle.theory.specs.Character.Alternating.{twice-zero}
 use Rattle.theory.specs.Character.Lowered.{lowered, lowered-cons}
 use Rattle.theory.specs.Character.Counted.{counted, counted-alternating, counted-zero-below, counted-any}
-use Rattle.theory.specs.Hooks.{Hook, led, hookOver, hooks, shifted, signed}
+use Rattle.theory.specs.Hooks.{Hook, hooks, shifted}
+use Rattle.theory.specs.Hooks.Walk.{led, hookOver, hooks-none, hooks-one, hooks-zero}
 use Rattle.theory.specs.Hooks.Laws.{Exchange, exchanges}
 use Rattle.theory.specs.Hooks.Betas.{digitBetas, length-digitBetas, digitBetas-append, digitBetas-shifted}
 use Rattle.theory.specs.Hooks.Betas.{rows-counted}
@@ -89,11 +90,11 @@ struck-zero f alternating below h ds = elim (decLt h (length ds)) [
 -- ---- the hooks
 lowered-hooks : (f : List ℤ → ℤ) → Alternating f → ZeroBelow f → (h : ℕ) (ds : Digits)
     → lowered (suc h) f (digitBetas ds) ≡ sum (counts f) (hooks (suc h) ds)
-unfolding hooks
-lowered-hooks f alternating below h [] = unfold lowered in refl
-lowered-hooks f alternating below h (true ∷ ds) =
-    lowered-hooks f alternating below h ds ∙ sym (sum-map (counts f) (led true) (hooks (suc h) ds))
+lowered-hooks f alternating below h [] = rw (hooks-none (suc h)) (unfold lowered in refl)
+lowered-hooks f alternating below h (true ∷ ds) = rw (hooks-one (suc h) ds)
+    (lowered-hooks f alternating below h ds ∙ sym (sum-map (counts f) (led true) (hooks (suc h) ds)))
 lowered-hooks f alternating below h (false ∷ ds) = rw (
+  hooks-zero h ds,
   lowered-cons (suc h) f (pos (length ds)) (digitBetas ds),
   struck-zero f alternating below h ds,
   lowered-hooks (λ t. f (pos (length ds) ∷ t)) (alternating-after f _ alternating)

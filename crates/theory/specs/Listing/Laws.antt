@@ -1,24 +1,24 @@
 -- How the listing is built, and how many partitions it has.
---   most p n        the partitions of n whose parts are at most p; countMost p n, how many there are
---   Built p n list  how most p n grows: those whose first part is p, and then those whose parts are below p
---   numbers a k     the k numbers from a on
+--   partitionsUpTo p n   the partitions of n whose parts are at most p; countMost p n, how many there are
+--   Built p n list       how they grow: those whose first part is p, and then those whose parts are below p
 use mathlib.Core.Path.{_≡_, refl, sym, _∙_, ap, ap₂}
 use Prim.Native.Nat.{_≤_, _<_}
-use native.Mathlib.Nat.{le-refl, add-zero, zero-add}
+use native.Mathlib.Nat.{le-refl}
 use native.Mathlib.Decide.{decLe, ℕ-discrete}
 use native.Mathlib.Omega.{arith}
 use lib.ListN.{length-append, length-map}
 use borrow.Author.Tests.{le-leb, lt-leb}
-use Rattle.theory.specs.Basics.{List, [], _∷_, _++_, map, ℕ, zero, suc, _+_, _-_, length, getD}
+use Rattle.theory.specs.Basics.{true, List, [], _∷_, _++_, map, ℕ, zero, suc, _+_, _-_, length, getD}
+use Rattle.theory.specs.Basics.AtPlace.{tabled, tabled-at}
 use Rattle.theory.specs.Partition.{Parts}
-use Rattle.theory.specs.Refusals.{degreeLimit}
+use Rattle.theory.specs.Limits.{degreeLimit}
 use Rattle.theory.specs.Listing.{partitions, listing, partitionCounts}
 
-abbrev pub most : ℕ → ℕ → List Parts
-most p n = partitions n p n
+abbrev pub partitionsUpTo : ℕ → ℕ → List Parts
+partitionsUpTo p n = partitions n p n
 
 abbrev pub countMost : ℕ → ℕ → ℕ
-countMost p n = length (most p n)
+countMost p n = length (partitionsUpTo p n)
 
 -- ---- how the list grows
 pub data Built : ℕ → ℕ → List Parts → Type 0 where
@@ -43,7 +43,7 @@ built-by (suc k) (suc p) (suc n) h =
       | no g ↦ rw (lt-leb (suc p) (suc n) (omega arith)) (too-large {p = p} {n = n} (omega arith) below)
     ]
 
-pub built : (p n : ℕ) → Built p n (most p n)
+pub built : (p n : ℕ) → Built p n (partitionsUpTo p n)
 built p n = built-by n p n (le-refl n)
 
 pub built-once : {p n : ℕ} {list other : List Parts} → Built p n list → Built p n other → list ≡ other
@@ -59,15 +59,15 @@ pub length-built : {p n : ℕ} {list : List Parts} → Built p n list → length
 length-built {p} {n} b = ap length (built-once b (built p n))
 
 -- ---- steps of the list, and of the counts
-pub most-zero : (p : ℕ) → most p 0 ≡ [] ∷ []
+pub most-zero : (p : ℕ) → partitionsUpTo p 0 ≡ [] ∷ []
 most-zero p = built-once (built p 0) done
 
 module _ (p n : ℕ) where
-  pub most-too-large : n < p → most (suc p) (suc n) ≡ most p (suc n)
+  pub most-too-large : n < p → partitionsUpTo (suc p) (suc n) ≡ partitionsUpTo p (suc n)
   most-too-large h = built-once (built (suc p) (suc n)) (too-large h (built p (suc n)))
 
   pub most-fork : p ≤ n
-      → most (suc p) (suc n) ≡ map (suc p ∷_) (most (suc p) (n - p)) ++ most p (suc n)
+      → partitionsUpTo (suc p) (suc n) ≡ map (suc p ∷_) (partitionsUpTo (suc p) (n - p)) ++ partitionsUpTo p (suc n)
   most-fork h = built-once (built (suc p) (suc n)) (fork h (built (suc p) (n - p)) (built p (suc n)))
 
   pub count-too-large : n < p → countMost (suc p) (suc n) ≡ countMost p (suc n)
@@ -96,21 +96,10 @@ count-monotone (suc p) q n h = elim (ℕ-discrete q (suc p)) [
 ]
 
 -- ---- the constants
-pub counted : map (λ n. length (listing n))
-    (0 ∷ 1 ∷ 2 ∷ 3 ∷ 4 ∷ 5 ∷ 6 ∷ 7 ∷ 8 ∷ 9 ∷ 10 ∷ 11 ∷ 12 ∷ 13 ∷ 14 ∷ 15 ∷ 16 ∷ []) ≡ partitionCounts
+pub counts-tabled : tabled (λ n. length (listing n)) 0 partitionCounts ≡ true
 unfolding listing partitions partitionCounts
-counted = refl
-
-abbrev numbers : ℕ → ℕ → List ℕ
-numbers a zero = []
-numbers a (suc k) = a ∷ numbers (suc a) k
-
-at-number : (f : ℕ → ℕ) (a k i : ℕ) → i < k → getD (map f (numbers a k)) i 0 ≡ f (a + i)
-at-number f a zero i h = absurd (omega arith)
-at-number f a (suc k) zero h = rw add-zero
-at-number f a (suc k) (suc i) h = at-number f (suc a) k i (omega arith) ∙ ap f (omega arith)
+counts-tabled = refl
 
 pub count-kept : (n : ℕ) → n ≤ degreeLimit → length (listing n) ≡ getD partitionCounts n 0
-count-kept n h =
-    let e = at-number (λ n. length (listing n)) 0 17 n (omega arith) in
-    sym (rw zero-add at e) ∙ ap (λ (counts : List ℕ). getD counts n 0) counted
+unfolding partitionCounts
+count-kept n h = sym (tabled-at (λ n. length (listing n)) partitionCounts n counts-tabled (omega arith))

@@ -1,5 +1,5 @@
 -- Ranks: each partition stands in the listing of its degree at its rank and only there, and counting gives the rank.
---   rankFrom p n ps    where ps stands in most p n: for each part, those with a larger part in its place are counted
+--   rankFrom p n ps    where ps stands in partitionsUpTo p n: for each part, those with a larger one are counted
 --   Stands list i ps   ps stands at place i of the list
 --   AtRank n i ps      ps is a partition of n, and its rank is i
 use mathlib.Core.Path.{_≡_, refl, _∙_, ap}
@@ -11,13 +11,13 @@ use lib.ListN.{length-append, length-map, List·getD-append}
 use lib.Seq.{getD-append-add}
 use borrow.Author.Tests.{eq-eqb, ne-eqb}
 use Rattle.theory.specs.Basics.{true, false, List, [], _∷_, _++_, map, ℕ, zero, suc, _+_, _-_, length, getD}
-use Rattle.theory.specs.Basics.Places.{each-at, map-at}
+use Rattle.theory.specs.Basics.AtPlace.{each-at, map-at}
 use Rattle.theory.specs.Partition.{Parts, isPartition, degree}
 use Rattle.theory.specs.Partition.Laws.{front, first-degree}
 use Rattle.theory.specs.Listing.{listing, same, rankIn, rank, Before, larger, later}
-use Rattle.theory.specs.Listing.Laws.{most, countMost, Built, done, stuck, too-large, fork, built, length-built}
-use Rattle.theory.specs.Listing.Laws.{count-too-large, count-fork, count-monotone}
-use Rattle.theory.specs.Listing.Order.{Fits, fits-bound, fits-at, Falling, falling}
+use Rattle.theory.specs.Listing.Laws.{partitionsUpTo, countMost, Built, done, stuck, too-large, fork, built}
+use Rattle.theory.specs.Listing.Laws.{length-built, count-too-large, count-fork, count-monotone}
+use Rattle.theory.specs.Listing.Order.{UpTo, partition-bound, partition-at, Falling, falling}
 
 unfoldable pub rankFrom : ℕ → ℕ → Parts → ℕ
 rankFrom p n [] = 0
@@ -66,7 +66,7 @@ rank-below : (p n q : ℕ) (qs : Parts) → p ≤ n → q ≤ p
 unfolding rankFrom
 rank-below p n q qs h l = omega (arith, count-fork p n h, count-monotone p q (suc n) l)
 
-stands : {p n : ℕ} {list : List Parts} (ps : Parts) → Built p n list → Fits p n ps → Stands list (rankFrom p n ps) ps
+stands : {p n : ℕ} {list : List Parts} (ps : Parts) → Built p n list → UpTo p n ps → Stands list (rankFrom p n ps) ps
 unfolding rankFrom
 stands [] done f = record { within = omega arith; at = refl }
 stands [] stuck f = absurd (omega arith)
@@ -75,7 +75,7 @@ stands [] (fork h a b) f = absurd (omega arith)
 stands (q ∷ qs) done f = let g = front q qs (f .partition) in absurd (omega arith)
 stands (q ∷ qs) stuck f = let g = front q qs (f .partition) in absurd (omega arith)
 stands (q ∷ qs) (too-large {p = p} {n = n} h b) f =
-    rw (count-too-large p n h) (stands (q ∷ qs) b (fits-bound p (omega arith) f))
+    rw (count-too-large p n h) (stands (q ∷ qs) b (partition-bound p (omega arith) f))
 stands (q ∷ qs) (fork {p = p} {n = n} {with-p = with-p} {below = below} h a b) f =
     let g = front q qs (f .partition) in
     elim (ℕ-discrete q (suc p)) [
@@ -85,7 +85,7 @@ stands (q ∷ qs) (fork {p = p} {n = n} {with-p = with-p} {below = below} h a b)
           rw (e, sub-self, left, zero-add) (stands-above (suc p) with-p below s)
       | no d ↦
           let low : q ≤ p = omega (arith, f .low) in
-          let s = stands-below (suc p) with-p below (stands (q ∷ qs) b (fits-bound p low f)) in
+          let s = stands-below (suc p) with-p below (stands (q ∷ qs) b (partition-bound p low f)) in
           rw (rank-below p n q qs h low) (rw (length-built a) at s)
     ]
 
@@ -98,7 +98,7 @@ stands-listed ps e =
 
 rank-listed : (n i : ℕ) → i < length (listing n) → rankIn (getD (listing n) i []) (listing n) ≡ i
 unfolding listing
-rank-listed n i h = rank-at (most n n) i (falling (built n n)) h
+rank-listed n i h = rank-at (partitionsUpTo n n) i (falling (built n n)) h
 
 pub rank-counted : (ps : Parts) → isPartition ps ≡ true → rank ps ≡ rankFrom (degree ps) (degree ps) ps
 unfolding rank
@@ -117,5 +117,5 @@ pub record AtRank (n i : ℕ) (ps : Parts) : Type 0 where
 pub at-rank : (n i : ℕ) → i < length (listing n) → AtRank n i (getD (listing n) i [])
 unfolding rank
 at-rank n i h =
-    let f = fits-at n i h in
+    let f = partition-at n i h in
     record { partition = f .partition; of-degree = f .whole; ranked = rw (f .whole) (rank-listed n i h) }

@@ -1,4 +1,5 @@
--- The size of a class is exact (document 01, "Size of a class"): within the limit n! is divided without a remainder.
+-- The size of a class is exact (document 01, "Size of a class"): n! is divided without a remainder,
+-- up to the largest limit.
 --   exact class        the size times what n! is divided by is n! again
 --   all-below test m   all numbers below m pass the test
 use mathlib.Core.Path.{_≡_, refl}
@@ -8,11 +9,11 @@ use native.Mathlib.Omega.{arith}
 use borrow.Author.Tests.{eqb-true}
 use Rattle.theory.specs.Basics.{Bool, true, _&&_, [], ℕ, zero, suc, _*_, _=?_, every}
 use Rattle.theory.specs.Basics.Laws.{both}
-use Rattle.theory.specs.Basics.Places.{every-at}
+use Rattle.theory.specs.Basics.AtPlace.{every-at}
 use Rattle.theory.specs.Partition.{Parts, isPartition, degree}
 use Rattle.theory.specs.ClassData.{classDivisor, classSize}
 use Rattle.theory.specs.Bounds.{factorial}
-use Rattle.theory.specs.Refusals.{degreeLimit}
+use Rattle.theory.specs.Bounds.Laws.{largestLimit}
 use Rattle.theory.specs.Listing.{listing, partitions, rank}
 use Rattle.theory.specs.Listing.Ranks.{listed}
 
@@ -32,16 +33,16 @@ below-at test (suc m) n e h = elim (ℕ-discrete n m) [
 ]
 
 -- one computed test
-all-exact : all-below (λ n. every exact (listing n)) (suc degreeLimit) ≡ true
+all-exact : all-below (λ n. every exact (listing n)) (suc largestLimit) ≡ true
 unfolding all-below exact listing partitions classSize classDivisor factorial
 all-exact = refl
 
-pub size-exact : (class : Parts) → isPartition class ≡ true → degree class ≤ degreeLimit
+pub size-exact : (class : Parts) → isPartition class ≡ true → degree class ≤ largestLimit
     → classSize class * classDivisor class ≡ factorial (degree class)
 unfolding exact
 size-exact class partition small =
     let s = listed class partition in
     let n = degree class in
-    let all = below-at (λ n. every exact (listing n)) (suc degreeLimit) n all-exact (omega arith) in
+    let all = below-at (λ n. every exact (listing n)) (suc largestLimit) n all-exact (omega arith) in
     let there = every-at exact (listing n) [] (rank class) all (s .within) in
     eqb-true _ _ (rw (s .at) at there)

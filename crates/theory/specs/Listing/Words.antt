@@ -9,12 +9,12 @@ use native.Mathlib.Omega.{arith}
 use lib.ListN.{length-append, length-map, List·getD-append}
 use lib.Seq.{getD-append-add}
 use Rattle.theory.specs.Basics.{true, List, [], _∷_, map, ℕ, zero, suc, _+_, _-_, length, getD, take, total}
-use Rattle.theory.specs.Basics.Places.{map-at}
+use Rattle.theory.specs.Basics.AtPlace.{map-at}
 use Rattle.theory.specs.Partition.{degree}
 use Rattle.theory.specs.Digits.{width}
 use Rattle.theory.specs.ShapeWord.{shapeWord, shapeOf, goodShape}
-use Rattle.theory.specs.ShapeWord.Words.{the-word, the-shape, small-fits}
-use Rattle.theory.specs.Refusals.{degreeLimit}
+use Rattle.theory.specs.ShapeWord.Words.{the-word, the-shape, small-has-room}
+use Rattle.theory.specs.Limits.{degreeLimit}
 use Rattle.theory.specs.Listing.{listing, rank, partitionCounts, wordsBelow, start}
 use Rattle.theory.specs.Listing.Laws.{count-kept}
 use Rattle.theory.specs.Listing.Ranks.{at-rank, listed}
@@ -29,7 +29,7 @@ pub word-ranked : (n i : ℕ) → n < width → i < length (listing n) → Ranke
 word-ranked n i h l =
     let ps = getD (listing n) i [] in
     let r = at-rank n i l in
-    let w = the-word ps (small-fits ps (r .partition) (omega (arith, r .of-degree))) in
+    let w = the-word ps (small-has-room ps (r .partition) (omega (arith, r .of-degree))) in
     record {
       good = w .good;
       of-degree = ap degree (w .its-shape) ∙ r .of-degree;
@@ -107,7 +107,7 @@ pub indexed : (m w : ℕ) → goodShape w ≡ true → degree (shapeOf w) < m �
 indexed m w g h =
     let ps = shapeOf w in
     let t = the-shape w g in
-    let s = listed ps (t .fits .partition) in
+    let s = listed ps (t .has-room .partition) in
     record {
       in-degree = omega (arith, start-next (degree ps), s .within);
       within = start-within m (degree ps) (rank ps) h (s .within);

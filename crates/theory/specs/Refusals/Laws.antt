@@ -1,95 +1,146 @@
--- What it tells that no row refuses, and what a judgement gives.
+-- What it tells that no check refuses, and what an answer is that is refused or given.
+--   Numbered checks      no check has the number 0
 --   Within limit w       a good shape word of a degree within the limit; WithinClass limit w, a good class word
 --   Matched limit s c    a good shape word and a good class word of one degree within the limit
-use mathlib.Core.Path.{_≡_, refl, sym, _∙_}
+use mathlib.Core.Path.{_≡_, refl, sym, _∙_, ap}
 use Prim.Native.Nat.{_≤_}
 use native.Mathlib.Decide.{ℕ-discrete}
 use native.Mathlib.Omega.{arith}
-use borrow.Author.Tests.{ltb-false, not-false, eqb-true, ltb-true}
+use borrow.Author.Tests.{ltb-false, not-false, eqb-true, eq-eqb, ltb-true, le-ltb}
 use Rattle.theory.specs.Basics.{Bool, true, false, cond, List, [], _∷_, _++_, ℕ, zero, suc, _=?_, _<?_, every}
 use Rattle.theory.specs.Basics.Laws.{Each, both}
 use Rattle.theory.specs.Partition.{degree}
 use Rattle.theory.specs.ShapeWord.{goodShape, shapeOf}
+use Rattle.theory.specs.ShapeWord.Good.{GoodShape, good-shape, shape-good}
 use Rattle.theory.specs.ClassWord.{goodClass, classOf}
-use Rattle.theory.specs.Refusals.{Row, firstOf, judged, shapeRows, classRows, pairRows}
+use Rattle.theory.specs.ClassWord.Laws.{GoodClass, good-class, class-good}
+use Rattle.theory.specs.Refusals.{Check, firstOf, refusedOr, shapeChecks, classChecks, pairChecks}
 
--- ---- a judgement
+-- ---- refused or given
 module _ {A : Type 0} (f : ℕ → A) (x : A) where
-  pub judged-refused : (k : ℕ) → (k ≡ 0 → ⊥) → judged k f x ≡ f k
-  judged-refused zero n = absurd (n refl)
-  judged-refused (suc k) n = refl
+  pub or-refused : (k : ℕ) → (k ≡ 0 → ⊥) → refusedOr k f x ≡ f k
+  or-refused zero n = absurd (n refl)
+  or-refused (suc k) n = refl
 
-  pub judged-given : (k : ℕ) → k ≡ 0 → judged k f x ≡ x
-  judged-given k e = rw e refl
+  pub or-given : (k : ℕ) → k ≡ 0 → refusedOr k f x ≡ x
+  or-given k e = rw e refl
 
--- ---- rows
--- the numbers that refuse are not 0, so where no row refuses, none applies
-pub none-applies : (rows : List Row) → every (λ row. 0 <? row .1) rows ≡ true → firstOf rows ≡ 0
-    → Each (λ row. row .0 ≡ false) rows
+-- any answer that holds the number that it is refused with: its number, what it is if that is 0, and that a refused
+-- answer is refused alike, whatever was to be given
+module _ {A : Type 0} (number : A → ℕ) (f : ℕ → A) (x : A) (its-number : (k : ℕ) → number (f k) ≡ k)
+    (none : number x ≡ 0) (k : ℕ) (a : A) (e : a ≡ refusedOr k f x) where
+  pub answer-number : number a ≡ k
+  answer-number = ap number e ∙ go k
+    where
+      go : (k : ℕ) → number (refusedOr k f x) ≡ k
+      go zero = none
+      go (suc k) = its-number (suc k)
+
+  pub answer-given : number a ≡ 0 → (k ≡ 0) × (a ≡ x)
+  answer-given z =
+      let n : k ≡ 0 = sym answer-number ∙ z in
+      (n, e ∙ or-given f x k n)
+
+  pub answer-refused : (other : A) → (number a ≡ 0 → ⊥) → a ≡ refusedOr k f other
+  answer-refused other n =
+      let refuses : k ≡ 0 → ⊥ = λ z. n (answer-number ∙ z) in
+      e ∙ or-refused f x k refuses ∙ sym (or-refused f other k refuses)
+
+-- ---- checks
+abbrev pub Numbered : List Check → Type 0
+Numbered checks = every (λ check. 0 <? check .1) checks ≡ true
+
+-- the numbers that refuse are not 0, so where no check refuses, none applies
+pub none-applies : (checks : List Check) → Numbered checks → firstOf checks ≡ 0
+    → Each (λ check. check .0 ≡ false) checks
 none-applies [] n e = tt
-none-applies (row ∷ rows) n e = go (row .0) refl e (none-applies rows (numbers .1))
+none-applies (check ∷ checks) n e = go (check .0) refl e (none-applies checks (numbers .1))
   where
-    numbers : (0 <? row .1 ≡ true) × (every (λ row. 0 <? row .1) rows ≡ true)
-    numbers = both (0 <? row .1) (every (λ row. 0 <? row .1) rows) n
+    numbers : (0 <? check .1 ≡ true) × Numbered checks
+    numbers = both (0 <? check .1) (every (λ check. 0 <? check .1) checks) n
 
-    go : (b : Bool) → row .0 ≡ b → cond b (row .1) (firstOf rows) ≡ 0
-        → (firstOf rows ≡ 0 → Each (λ row. row .0 ≡ false) rows) → (row .0 ≡ false) × Each (λ row. row .0 ≡ false) rows
-    go true t e rest = absurd (omega (arith, ltb-true 0 (row .1) (numbers .0)))
+    go : (b : Bool) → check .0 ≡ b → cond b (check .1) (firstOf checks) ≡ 0
+        → (firstOf checks ≡ 0 → Each (λ check. check .0 ≡ false) checks)
+        → (check .0 ≡ false) × Each (λ check. check .0 ≡ false) checks
+    go true t e rest = absurd (omega (arith, ltb-true 0 (check .1) (numbers .0)))
     go false t e rest = (t, rest e)
 
--- rows that refuse are not asked again by those behind them
-pub first-refuses : (rows more : List Row) → (firstOf rows ≡ 0 → ⊥) → firstOf (rows ++ more) ≡ firstOf rows
-first-refuses [] more n = absurd (n refl)
-first-refuses (row ∷ rows) more n = go (row .0) n (first-refuses rows more)
-  where
-    go : (b : Bool) → (cond b (row .1) (firstOf rows) ≡ 0 → ⊥)
-        → ((firstOf rows ≡ 0 → ⊥) → firstOf (rows ++ more) ≡ firstOf rows)
-        → cond b (row .1) (firstOf (rows ++ more)) ≡ cond b (row .1) (firstOf rows)
-    go true n rest = refl
-    go false n rest = rest n
+module _ (checks more : List Check) where
+  -- checks that refuse are not asked again by those behind them
+  pub first-refuses : (firstOf checks ≡ 0 → ⊥) → firstOf (checks ++ more) ≡ firstOf checks
+  first-refuses = go checks
+    where
+      go : (cs : List Check) → (firstOf cs ≡ 0 → ⊥) → firstOf (cs ++ more) ≡ firstOf cs
+      go [] n = absurd (n refl)
+      go (check ∷ cs) n = by (check .0) n (go cs)
+        where
+          by : (b : Bool) → (cond b (check .1) (firstOf cs) ≡ 0 → ⊥)
+              → ((firstOf cs ≡ 0 → ⊥) → firstOf (cs ++ more) ≡ firstOf cs)
+              → cond b (check .1) (firstOf (cs ++ more)) ≡ cond b (check .1) (firstOf cs)
+          by true n rest = refl
+          by false n rest = rest n
 
-pub first-part : (rows more : List Row) → firstOf (rows ++ more) ≡ 0 → firstOf rows ≡ 0
-first-part rows more e = elim (ℕ-discrete (firstOf rows) 0) [
-  | yes z ↦ z
-  | no n ↦ sym (first-refuses rows more n) ∙ e
-]
+  -- and checks that do not refuse leave it to them
+  pub first-passes : Numbered checks → firstOf checks ≡ 0 → firstOf (checks ++ more) ≡ firstOf more
+  first-passes n e = go checks (none-applies checks n e)
+    where
+      go : (cs : List Check) → Each (λ check. check .0 ≡ false) cs → firstOf (cs ++ more) ≡ firstOf more
+      go [] a = refl
+      go (check ∷ cs) a = rw (a .0) (go cs (a .1))
 
--- and rows that do not refuse leave it to them
-pub none-refuses : (rows more : List Row) → Each (λ row. row .0 ≡ false) rows → firstOf (rows ++ more) ≡ firstOf more
-none-refuses [] more e = refl
-none-refuses (row ∷ rows) more e = rw (e .0) (none-refuses rows more (e .1))
+  pub both-pass : Numbered checks → firstOf (checks ++ more) ≡ 0 → (firstOf checks ≡ 0) × (firstOf more ≡ 0)
+  both-pass n e = elim (ℕ-discrete (firstOf checks) 0) [
+    | yes z ↦ (z, sym (first-passes n z) ∙ e)
+    | no f ↦ absurd (f (sym (first-refuses f) ∙ e))
+  ]
 
 -- ---- words
 pub record Within (limit w : ℕ) : Type 0 where
-  pub good : goodShape w ≡ true
+  pub good : GoodShape w
   pub small : degree (shapeOf w) ≤ limit
 
-pub within : (limit w : ℕ) → firstOf (shapeRows limit w) ≡ 0 → Within limit w
+pub within : (limit w : ℕ) → firstOf (shapeChecks limit w) ≡ 0 → Within limit w
 within limit w e =
-    let a = none-applies (shapeRows limit w) refl e in
-    record { good = not-false (goodShape w) (a .0); small = ltb-false limit (degree (shapeOf w)) (a .1 .0) }
+    let a = none-applies (shapeChecks limit w) refl e in
+    record {
+      good = good-shape w (not-false (goodShape w) (a .0));
+      small = ltb-false limit (degree (shapeOf w)) (a .1 .0);
+    }
 
 pub record WithinClass (limit w : ℕ) : Type 0 where
-  pub good : goodClass w ≡ true
+  pub good : GoodClass w
   pub small : degree (classOf w) ≤ limit
 
-pub within-class : (limit w : ℕ) → firstOf (classRows limit w) ≡ 0 → WithinClass limit w
+pub within-class : (limit w : ℕ) → firstOf (classChecks limit w) ≡ 0 → WithinClass limit w
 within-class limit w e =
-    let a = none-applies (classRows limit w) refl e in
-    record { good = not-false (goodClass w) (a .0); small = ltb-false limit (degree (classOf w)) (a .1 .0) }
+    let a = none-applies (classChecks limit w) refl e in
+    record {
+      good = good-class w (not-false (goodClass w) (a .0));
+      small = ltb-false limit (degree (classOf w)) (a .1 .0);
+    }
 
 pub record Matched (limit s c : ℕ) : Type 0 where
   pub shape : Within limit s
   pub class : WithinClass limit c
   pub degrees : degree (shapeOf s) ≡ degree (classOf c)
 
-pub matched : (limit s c : ℕ) → firstOf (pairRows limit s c) ≡ 0 → Matched limit s c
+pub matched : (limit s c : ℕ) → firstOf (pairChecks limit s c) ≡ 0 → Matched limit s c
 matched limit s c e =
-    let a = none-applies (pairRows limit s c) refl e in
+    let (s-good, (c-good, (s-small, (c-small, (same, _))))) = none-applies (pairChecks limit s c) refl e in
     let m : ℕ = degree (shapeOf s) in
     let n : ℕ = degree (classOf c) in
     record {
-      shape = record { good = not-false (goodShape s) (a .0); small = ltb-false limit m (a .1 .1 .0) };
-      class = record { good = not-false (goodClass c) (a .1 .0); small = ltb-false limit n (a .1 .1 .1 .0) };
-      degrees = eqb-true m n (not-false (m =? n) (a .1 .1 .1 .1 .0));
+      shape = record { good = good-shape s (not-false (goodShape s) s-good); small = ltb-false limit m s-small };
+      class = record { good = good-class c (not-false (goodClass c) c-good); small = ltb-false limit n c-small };
+      degrees = eqb-true m n (not-false (m =? n) same);
     }
+
+-- and words that are so pass
+pub pair-passes : {limit s c : ℕ} → Matched limit s c → firstOf (pairChecks limit s c) ≡ 0
+pair-passes {limit} {s} {c} m = rw (
+  shape-good (m .shape .good),
+  class-good (m .class .good),
+  le-ltb limit (degree (shapeOf s)) (m .shape .small),
+  le-ltb limit (degree (classOf c)) (m .class .small),
+  eq-eqb (degree (shapeOf s)) (degree (classOf c)) (m .degrees),
+)

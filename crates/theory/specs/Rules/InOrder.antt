@@ -9,7 +9,7 @@ use lib.IntN.{pos-ne-negsuc, +ℤ-negℤ-cancel, -ℤ-+ℤ-cancel}
 use Rattle.theory.specs.Basics.{true, List, [], _∷_, _++_, ℕ, zero, suc, _+_, every, _=?_}
 use Rattle.theory.specs.Basics.{ℤ, pos, negsuc, _+ℤ_, _-ℤ_, natAbs}
 use Rattle.theory.specs.Character.{plus, turn, before, sink, ordered, trimmed}
-use Rattle.theory.specs.Character.Integers.{from-difference, from-below, more-one, less-one, swap-back}
+use Rattle.theory.specs.Basics.Integers.{from-difference, from-below, more-one, less-one, swap-back}
 use Rattle.theory.specs.Character.Terms.{Holds, holds-map, holds-turn, holds-then, sink-cases}
 use Rattle.theory.specs.Rules.{AtMost, Descending}
 
@@ -17,8 +17,8 @@ use Rattle.theory.specs.Rules.{AtMost, Descending}
 one-less : (b c : ℤ) → AtMost b (c +ℤ pos 1) → AtMost (b -ℤ pos 1) c
 one-less b c (n, e) = (n, sym (+ℤ-negℤ-cancel c (pos 1)) ∙ ap (λ x. x -ℤ pos 1) e ∙ swap-back b (pos n) (negsuc 0))
 
-exchanged : (a b : ℤ) (n : ℕ) → a -ℤ b ≡ negsuc (suc n) → AtMost (a +ℤ pos 1) (b -ℤ pos 1)
-exchanged a b n e = (
+exchange-falls : (a b : ℤ) (n : ℕ) → a -ℤ b ≡ negsuc (suc n) → AtMost (a +ℤ pos 1) (b -ℤ pos 1)
+exchange-falls a b n e = (
   n,
   ap (λ x. x -ℤ pos 1) (from-below a b (suc n) e ∙ sym (more-one a (suc n)))
       ∙ swap-back (a +ℤ pos 1) (pos (suc n)) (negsuc 0) ∙ less-one (a +ℤ pos 1) n,
@@ -46,7 +46,7 @@ sink-below c a (b ∷ bs) d h = go (λ k. sink-below (b -ℤ pos 1) (a +ℤ pos 
         sink-cases (Holds (Below c)) a b bs
         (λ n e. (h, ((n, from-difference a b (pos n) e), d .1)))
         (λ e. tt)
-        (λ n e. sunk (Below (b -ℤ pos 1)) (Below c) a b bs (λ l k. (o, k)) (deeper (exchanged a b n e)))
+        (λ n e. sunk (Below (b -ℤ pos 1)) (Below c) a b bs (λ l k. (o, k)) (deeper (exchange-falls a b n e)))
 
 sink-descending : (a : ℤ) (bs : List ℤ) → Descending bs → Holds Descending (sink a bs)
 sink-descending a [] d = tt
@@ -54,7 +54,7 @@ sink-descending a (b ∷ bs) d = sink-cases (Holds Descending) a b bs
     (λ n e. ((n, from-difference a b (pos n) e), d))
     (λ e. tt)
     (λ n e. sunk (Below (b -ℤ pos 1)) Descending a b bs (λ l k. k)
-    (sink-below (b -ℤ pos 1) (a +ℤ pos 1) bs (rw (-ℤ-+ℤ-cancel b (pos 1)) d) (exchanged a b n e)))
+    (sink-below (b -ℤ pos 1) (a +ℤ pos 1) bs (rw (-ℤ-+ℤ-cancel b (pos 1)) d) (exchange-falls a b n e)))
 
 pub ordered-descending : (l : List ℤ) → Holds Descending (ordered l)
 ordered-descending [] = tt

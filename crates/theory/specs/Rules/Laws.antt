@@ -6,7 +6,7 @@ use native.Mathlib.Nat.{zero-add}
 use lib.IntN.{+ℤ-idr}
 use Rattle.theory.specs.Basics.{List, [], _∷_, _++_, ℕ, suc, length, ℤ, pos, negsuc, _+ℤ_, _-ℤ_}
 use Rattle.theory.specs.Character.{Term, nothing, plus, then, before, value, sink, ordered, rule-1, sorted}
-use Rattle.theory.specs.Character.Integers.{from-below, more-one, less-one}
+use Rattle.theory.specs.Basics.Integers.{from-below, more-one, less-one}
 use Rattle.theory.specs.Character.Terms.{value-turn, Holds, holds-map, holds-turn, holds-then}
 use Rattle.theory.specs.Character.Terms.{then-turn, then-then, sink-cases}
 use Rattle.theory.specs.Character.Alternating.{here, Alternating, ZeroBelow, raisedBy, swap-at, twice-zero}

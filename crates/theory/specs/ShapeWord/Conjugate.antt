@@ -1,7 +1,7 @@
 -- The conjugate interchanges rows and columns; taken twice it is the shape again (document 01, "Conjugate").
 --   flipped ds     the digits in reverse order and complemented; conjugate ds is flipped (upToLastOne ds)
 --   allRows ds     as rows ds, and a zero without a one after it is a row too, of length 0
---   columns n ps   the first n columns; transposed ps is columns (first ps) ps
+--   columns i n ps   the n columns from column i; transposed ps is columns 1 (first ps) ps
 use mathlib.Core.Path.{_≡_, refl, sym, _∙_, ap, ap₂}
 use mathlib.Core.Bool.{Bool·not-not}
 use mathlib.Core.List.{reverse-cons, reverse-append, map-append}
@@ -10,17 +10,18 @@ use Prim.Native.Nat.{_≤_, _<_}
 use native.Mathlib.Omega.{arith}
 use lib.Pow.{pow-pos}
 use lib.ListN.{length-map, length-reverse}
-use borrow.Author.Tests.{le-leb, lt-leb, lt-ltb, ltb-true}
+use borrow.Author.Tests.{le-leb, lt-leb}
 use Rattle.theory.specs.Basics.{Bool, true, false, not, [], _∷_, _++_, map, reverse, ℕ, zero, suc, _+_, _^_}
-use Rattle.theory.specs.Basics.{length, _≤?_, count, downFrom}
-use Rattle.theory.specs.Basics.Laws.{count-append}
+use Rattle.theory.specs.Basics.{length, _≤?_, count, upFrom}
+use Rattle.theory.specs.Basics.Laws.{count-append, up-from-one}
 use Rattle.theory.specs.Partition.{Parts, first, isPartition, degree, transposed}
 use Rattle.theory.specs.Partition.Laws.{front}
 use Rattle.theory.specs.Digits.{Digits, digits, word, ones, zeros, upToLastOne, width}
 use Rattle.theory.specs.Digits.Laws.{digits-word, digits-zero, word-digits, word-below, length-digits}
 use Rattle.theory.specs.Digits.LastOne.{LastOne, none, some, last, last-one, last-zero, last-filled, ends-one}
 use Rattle.theory.specs.Digits.LastOne.{ones-last, length-last, word-last, ones-append}
-use Rattle.theory.specs.ShapeWord.{rows, pairs, conjugate, shapeOf, conjugateWord, goodShape}
+use Rattle.theory.specs.ShapeWord.{rows, pairs, conjugate, shapeOf, conjugateWord, shapeWidth, goodShape}
+use Rattle.theory.specs.ShapeWord.Good.{good-shape, shape-good}
 use Rattle.theory.specs.ShapeWord.Laws.{rows-none, rows-zero, rows-last, rows-filled, first-rows, rows-partition}
 use Rattle.theory.specs.ShapeWord.Laws.{degree-pairs}
 
@@ -68,20 +69,18 @@ all-zero (false ∷ ds) =
     rw (e, all-zero ds)
 
 -- ---- columns
-abbrev columns : ℕ → Parts → Parts
-columns n ps = map (λ j. count (j ≤?_) ps) (reverse (downFrom n))
+abbrev columns : ℕ → ℕ → Parts → Parts
+columns i n ps = map (λ j. count (j ≤?_) ps) (upFrom i n)
 
-columns-suc : (n : ℕ) (ps : Parts) → columns (suc n) ps ≡ columns n ps ++ (count (suc n ≤?_) ps ∷ [])
-columns-suc n ps =
+columns-last : (n : ℕ) (ps : Parts) → columns 1 (suc n) ps ≡ columns 1 n ps ++ (count (suc n ≤?_) ps ∷ [])
+columns-last n ps =
     let c : ℕ → ℕ = λ j. count (j ≤?_) ps in
-    ap (map c) (reverse-cons (suc n) (downFrom n)) ∙ map-append c (reverse (downFrom n)) (suc n ∷ [])
+    ap (map c) (up-from-one n) ∙ map-append c (upFrom 1 n) (suc n ∷ [])
 
 -- a row in front lengthens the columns that it reaches
-columns-row : (n r : ℕ) (ps : Parts) → n ≤ r → columns n (r ∷ ps) ≡ map suc (columns n ps)
-columns-row zero r ps l = refl
-columns-row (suc n) r ps l =
-    let e = columns-row n r ps (omega arith) in
-    rw (columns-suc n (r ∷ ps), columns-suc n ps, le-leb (suc n) r l, e, map-append suc (columns n ps))
+columns-row : (i n r : ℕ) (ps : Parts) → i + n ≤ suc r → columns i n (r ∷ ps) ≡ map suc (columns i n ps)
+columns-row i zero r ps l = refl
+columns-row i (suc n) r ps l = rw (le-leb i r (omega arith), columns-row (suc i) n r ps (omega arith))
 
 -- no column beyond the first row
 no-column : (j : ℕ) (ps : Parts) → isPartition ps ≡ true → first ps < j → count (j ≤?_) ps ≡ 0
@@ -89,14 +88,15 @@ no-column j [] e l = refl
 no-column j (p ∷ ps) e l = let f = front p ps e in rw (lt-leb j p l) (no-column j ps (f .rest) (omega arith))
 
 -- ---- rows of the conjugate
-rows-flipped : {ds us : Digits} → LastOne ds us → allRows (flipped us) ≡ columns (ones ds) (rows ds)
+rows-flipped : {ds us : Digits} → LastOne ds us → allRows (flipped us) ≡ columns 1 (ones ds) (rows ds)
 rows-flipped (none e) = rw e
 rows-flipped (some {d = true} {ds = ds} {us = us} h u) =
     let e = no-column (suc (ones ds)) (rows ds) (rows-partition ds) (omega (arith, first-rows ds)) in
-    rw (flipped-front true us, all-zero (flipped us), rows-flipped u, columns-suc (ones ds) (rows ds), e)
+    rw (flipped-front true us, all-zero (flipped us), rows-flipped u)
+    (sym (rw e at (columns-last (ones ds) (rows ds))))
 rows-flipped (some {d = false} {ds = ds} {us = us} h u) =
     rw (flipped-front false us, all-one (flipped us), rows-flipped u, rows-zero ds h)
-    (sym (columns-row (ones ds) (ones ds) (rows ds) (omega arith)))
+    (sym (columns-row 1 (ones ds) (ones ds) (rows ds) (omega arith)))
 
 rows-end : (ds : Digits) → rows (ds ++ (false ∷ [])) ≡ rows ds
 rows-end ds = sym (rows-last (last (ds ++ (false ∷ [])))) ∙ ap rows (last-zero ds) ∙ rows-last (last ds)
@@ -189,7 +189,7 @@ degree-conjugate-word w =
     ap degree (shape-conjugate w ∙ sym (rows-conjugate ds)) ∙ degree-conjugate ds
 
 pub conjugate-good : (w : ℕ) → goodShape (conjugateWord w) ≡ true
-conjugate-good w = lt-ltb (conjugateWord w) (2 ^ 30) (word-conjugate 30 (digits width w))
+conjugate-good w = shape-good (record { below = word-conjugate shapeWidth (digits width w) })
 
 pub conjugate-word-twice : (w : ℕ) → goodShape w ≡ true → conjugateWord (conjugateWord w) ≡ w
-conjugate-word-twice w g = conjugated-twice 30 w (ltb-true w (2 ^ 30) g)
+conjugate-word-twice w g = conjugated-twice shapeWidth w (good-shape w g .below)

@@ -21,11 +21,11 @@ conjugate-digits n x =
     ap (λ (ds : Digits). map not (reverse ds)) (last-digits n x)
     ∙ ap (map not) (reverse-digits (n - trailingZeros n x) (x / 2 ^ trailingZeros n x))
 
-flipped : (b n : ℕ) (ds : Digits) → b < 2 → word (suc n) (not (b =? 1) ∷ ds) ≡ (1 - b) * 2 ^ n + word n ds
+flip-first : (b n : ℕ) (ds : Digits) → b < 2 → word (suc n) (not (b =? 1) ∷ ds) ≡ (1 - b) * 2 ^ n + word n ds
 unfolding word
-flipped zero n ds h = omega arith
-flipped (suc zero) n ds h = omega arith
-flipped (suc (suc b)) n ds h = absurd (omega arith)
+flip-first zero n ds h = omega arith
+flip-first (suc zero) n ds h = omega arith
+flip-first (suc (suc b)) n ds h = absurd (omega arith)
 
 -- The lowest of the digits left goes to the highest of the places left, as a shift in a word of W bits puts it there;
 -- the t lowest places keep their zeros.
@@ -38,7 +38,7 @@ flip-step W left t x h l =
     let m : left - t ≡ suc (left - 1 - t) = omega arith in
     rw (shl-exact {a = 1 - x % 2} 1 (left - 1) W (omega arith) (omega arith))
     (ap₂ (λ (u v : ℕ). word u (flips v x)) n m
-    ∙ flipped (x % 2) (left - 1) (flips (left - 1 - t) (x / 2)) (omega arith))
+    ∙ flip-first (x % 2) (left - 1) (flips (left - 1 - t) (x / 2)) (omega arith))
 
 -- and when only those are left
 pub flip-end : (t x : ℕ) → word t (flips (t - t) x) ≡ 0

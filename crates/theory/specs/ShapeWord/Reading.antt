@@ -30,10 +30,10 @@ word-row k n ds =
     omega (arith, word-run k n ds)
 
 -- a row in front: a zero, a run of ones, and the word of the other rows in the digits that are left
-pub word-front : (n r : ℕ) (rs : Parts) → first rs ≤ r → suc (length rs) + r ≤ n
+pub shape-word-front : (n r : ℕ) (rs : Parts) → first rs ≤ r → suc (length rs) + r ≤ n
     → word n (shapeDigits (r ∷ rs))
     ≡ (2 ^ (n - 1) - 2 ^ (n - 1 - (r - first rs))) + word (n - 1 - (r - first rs)) (shapeDigits rs)
-word-front n r rs f l =
+shape-word-front n r rs f l =
     let k : ℕ = r - first rs in
     let m : ℕ = n - 1 - k in
     let e : n ≡ suc (k + m) = omega arith in

@@ -1,8 +1,9 @@
 -- `characters::columns::empty` meets its contract: the empty shape alone has no row, and it has 1.
 use mathlib.Core.Path.{refl}
 use borrow.Author.Needs.{needs}
-use Rattle.characters.specs.Tables.{placeCount}
-use Rattle.characters.proofs.Lifts.{kept-empty}
+use Rattle.characters.specs.Private.Places.{placeCount}
+use Rattle.characters.proofs.PlaceLaws.{shapes-placed}
+use Rattle.characters.proofs.KeptTables.{kept-empty}
 use Rattle.characters.proofs.columns.empty.Statement.{statement}
 use Rattle.characters.proofs.columns.empty.Tie as tie
 
@@ -16,7 +17,7 @@ array-set-of-table : tie.Need-array-set-of-table
 array-set-of-table c = search needs
 
 returns : tie.Need-returns
-returns c = kept-empty placeCount (c .place .result) refl (c .place .ensures .0)
+returns c = kept-empty shapes-placed placeCount (c .place .result) refl (c .place .ensures .0)
 
 pub empty-spec : {M : Type 1} → statement M
 empty-spec = tie.close (tie.spec place-requires mul-table array-set-of-table returns)

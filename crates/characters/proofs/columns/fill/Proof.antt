@@ -4,26 +4,28 @@ use Prim.Native.Nat.{_+_, _-_}
 use native.Mathlib.Omega.{arith}
 use borrow.Author.Needs.{needs}
 use Rattle.theory.specs.Basics.{getD}
+use Rattle.characters.specs.Private.Places.{shapePlaces}
 use Rattle.characters.proofs.Lifts.{Filling, fill-start, Earlier, fill-next}
 use Rattle.characters.proofs.columns.fill.Statement.{statement}
 use Rattle.characters.proofs.columns.fill.Tie as tie
 
 abbrev Inv-loop : tie.InvT-loop
-Inv-loop table₀ words places cycles i₀ degree₀ table i degree = Filling cycles table i degree
+Inv-loop table₀ words displacements cycles i₀ degree₀ table i degree = Filling shapePlaces cycles table i degree
 
 abbrev μ-loop : tie.MeasureT-loop
-μ-loop table₀ words places cycles i₀ degree₀ table i degree = i
+μ-loop table₀ words displacements cycles i₀ degree₀ table i degree = i
+
+abbrev begin : tie.In-loop Inv-loop μ-loop → tie.Start Inv-loop μ-loop
+begin c = c .before .before .before .before .before
 
 step : (c : tie.In-loop Inv-loop μ-loop)
-    → let cycles = c .before .before .before .before .before .args .cycles .now in
+    → let cycles = begin c .args .cycles .now in
     let l = c .before .loop in
-    Earlier cycles (l .table) (l .i - 1) (l .degree + getD cycles (l .i - 1) 0)
-step c =
-    let all = c .before .before .before .before .before .pre .2 in
-    fill-next _ all _ _ _ (c .before .loop .inv) (omega (arith, c .loop-test .taken))
+    Earlier shapePlaces cycles (l .table) (l .i - 1) (l .degree + getD cycles (l .i - 1) 0)
+step c = fill-next _ _ (begin c .pre .1 .0) _ _ _ (c .before .loop .inv) (omega (arith, c .loop-test .taken))
 
 loop-holds : tie.Need-loop-holds Inv-loop μ-loop
-loop-holds c = fill-start _ _ (c .before .before .before .pre .3)
+loop-holds c = fill-start _ _ _ (c .before .before .before .pre .1 .1)
 
 sub-i : tie.Need-sub-i Inv-loop μ-loop
 sub-i c = search needs
@@ -43,9 +45,8 @@ add-degree c =
 
 lift-requires : tie.Need-lift-requires Inv-loop μ-loop
 lift-requires c κs =
-    let pre = c .before .before .before .before .before .before .before .pre in
     let s = step (c .before .before) in
-    ((pre .0, pre .1), ((s .inside, s .of-degree), (s .from, s .kept)))
+    (begin (c .before .before) .pre .0, ((s .inside, s .of-degree), (s .from, s .kept)))
 
 loop-less : tie.Need-loop-less Inv-loop μ-loop
 loop-less c = search needs

@@ -8,35 +8,41 @@ use Rattle.theory.specs.Listing.{listing, start}
 use Rattle.theory.specs.Listing.Words.{start-next, start-rises}
 use Rattle.theory.specs.Basics.{_∷_, length, drop, getD}
 use Rattle.theory.specs.Partition.{degree}
-use Rattle.theory.specs.Refusals.{degreeLimit}
+use Rattle.theory.specs.Limits.{degreeLimit}
 use Rattle.listing.specs.declared.SectionAnswer.{SectionAnswer}
 use Rattle.listing.specs.Calls.{sectionAnswer}
-use Rattle.listing.proofs.Indexes.{section-given, shapeWords-length}
-use Rattle.characters.proofs.Lifts.{Cut, cut, Lifting, Turn, lift-start, lift-turn, lift-next, lift-end}
+use Rattle.listing.proofs.Indexes.{section-given, words-counted}
+use Rattle.characters.specs.Private.Places.{shapePlaces}
+use Rattle.characters.proofs.PlaceLaws.{shapes-placed}
+use Rattle.characters.proofs.Lifts.{Cut, cut, Lifting, NextWord, lift-start, lift-word, lift-next, lift-end}
 use Rattle.characters.proofs.columns.lift.Statement.{statement}
 use Rattle.characters.proofs.columns.lift.Tie as tie
 
 abbrev Inv-loop : tie.InvT-loop
-Inv-loop table₀ words places cycles i degree cycle end at₀ table at = Lifting cycle (drop (i + 1) cycles) table at
+Inv-loop table₀ words displacements cycles i degree cycle end at₀ table at =
+    Lifting shapePlaces cycle (drop (i + 1) cycles) table at
 
 abbrev μ-loop : tie.MeasureT-loop
-μ-loop table₀ words places cycles i degree cycle end at₀ table at = end - at
+μ-loop table₀ words displacements cycles i degree cycle end at₀ table at = end - at
 
-abbrev begin : (c : tie.In-loop Inv-loop μ-loop) → tie.Start Inv-loop μ-loop
-begin c = c .before .before .before .before .before .before .before .before
-
-abbrev start-of : (c : tie.After-section Inv-loop μ-loop) → tie.Start Inv-loop μ-loop
+abbrev start-of : tie.After-section Inv-loop μ-loop → tie.Start Inv-loop μ-loop
 start-of c = c .before .before .before .before .before
 
-struck : (c : tie.Start Inv-loop μ-loop) → Cut (c .args .cycles .now) (c .args .i) (c .args .degree)
-struck c = cut _ _ _ (c .pre .1 .0 .0) (c .pre .1 .0 .1) (c .pre .1 .1 .0)
+abbrev section : tie.In-loop Inv-loop μ-loop → tie.After-section Inv-loop μ-loop
+section c = c .before .before .before
+
+abbrev begin : tie.In-loop Inv-loop μ-loop → tie.Start Inv-loop μ-loop
+begin c = start-of (section c)
+
+cut-here : (c : tie.Start Inv-loop μ-loop) → Cut degreeLimit (c .args .cycles .now) (c .args .i) (c .args .degree)
+cut-here c = cut _ _ _ _ (c .pre .1 .0 .0) (c .pre .1 .0 .1) (c .pre .1 .1 .0)
 
 small : (c : tie.Start Inv-loop μ-loop) → c .args .degree ≤ degreeLimit
 small c = omega (arith, c .pre .1 .0 .1, c .pre .1 .1 .0 .small)
 
 given : (c : tie.After-section Inv-loop μ-loop) → let n = start-of c .args .degree in
     c .section .result ≡ sectionAnswer 0 (start n) (length (listing n))
-given c = section-given _ (c .section .result) (c .section .ensures) (small (start-of c))
+given c = section-given _ _ (c .section .result) (c .section .ensures) (small (start-of c))
 
 ends : (c : tie.After-section Inv-loop μ-loop)
     → c .section .result .start + c .section .result .count ≡ start (start-of c .args .degree + 1)
@@ -47,51 +53,50 @@ ends c =
 
 more : (c : tie.In-loop Inv-loop μ-loop) → let a = begin c .args in
     c .before .loop .at < start (suc (degree (getD (a .cycles .now) (a .i) 0 ∷ drop (a .i + 1) (a .cycles .now))))
-more c = omega (arith, struck (begin c) .ends, ends (c .before .before .before))
+more c = omega (arith, cut-here (begin c) .ends, ends (section c))
 
-turn : (c : tie.In-loop Inv-loop μ-loop) → let a = begin c .args in
-    Turn (a .words .now) (c .before .loop .at) (getD (a .cycles .now) (a .i) 0)
-turn c = lift-turn _ _ (struck (begin c) .all) _ _ (c .before .loop .inv) (more c) _ (begin c .pre .0 .0)
+next : (c : tie.In-loop Inv-loop μ-loop) → let a = begin c .args in
+    NextWord degreeLimit (a .words .now) (c .before .loop .at) (getD (a .cycles .now) (a .i) 0)
+next c =
+    lift-word shapes-placed _ _ (cut-here (begin c) .all) _ _ (c .before .loop .inv) (more c) _ (begin c .pre .0 .0)
 
 shared-slice-read-cycle : tie.Need-shared-slice-read-cycle Inv-loop μ-loop
 shared-slice-read-cycle c = search needs
 
 cast-cycle : tie.Need-cast-cycle Inv-loop μ-loop
-cast-cycle c =
-    let begin = c .before .before .before .before in
-    omega (arith, struck begin .all .small)
+cast-cycle c = omega (arith, cut-here (c .before .before .before .before) .all .small)
 
 section-requires : tie.Need-section-requires Inv-loop μ-loop
 section-requires c κs = search needs
 
-all : start 17 ≡ 915
-all = shapeWords-length
-
 add-end : tie.Need-add-end Inv-loop μ-loop
 add-end c =
-    let n = start-of (c .before) .args .degree in
-    omega (arith, ends (c .before), start-rises (n + 1) 17 (omega (arith, small (start-of (c .before)))), all)
+    let begin = start-of (c .before) in
+    let last = start-rises (begin .args .degree + 1) (suc degreeLimit) (omega (arith, small begin)) in
+    omega (arith, ends (c .before), words-counted)
 
 loop-holds : tie.Need-loop-holds Inv-loop μ-loop
 loop-holds c =
     let begin = start-of (c .before) in
-    rw (ap (λ (x : SectionAnswer). x .start) (given (c .before)) ∙ struck begin .starts)
-    (lift-start _ _ _ (begin .pre .1 .1 .1))
+    rw (ap (λ (x : SectionAnswer). x .start) (given (c .before)) ∙ cut-here begin .starts)
+    (lift-start shapes-placed _ _ _ (begin .pre .1 .1 .1))
 
 mul-word : tie.Need-mul-word Inv-loop μ-loop
-mul-word c = omega (arith, turn c .inside)
+mul-word c = omega (arith, next c .inside)
 
 shared-slice-read-word : tie.Need-shared-slice-read-word Inv-loop μ-loop
-shared-slice-read-word c = turn (c .before) .inside
+shared-slice-read-word c = next (c .before) .inside
 
 hook-sum-requires : tie.Need-hook-sum-requires Inv-loop μ-loop
 hook-sum-requires c κs =
     let in-loop = c .before .before in
-    let t = turn in-loop in
-    (in-loop .before .loop .inv .kept .form, begin in-loop .pre .0 .1, t .good, t .long, t .short)
+    let word = next in-loop in
+    ((in-loop .before .loop .inv .kept .form, begin in-loop .pre .0 .1), (word .within, word .long, word .short))
 
 place-requires : tie.Need-place-requires Inv-loop μ-loop
-place-requires c κs = (begin (c .before .before .before) .pre .0 .1, turn (c .before .before .before) .good)
+place-requires c κs =
+    let in-loop = c .before .before .before in
+    (begin in-loop .pre .0 .1, next in-loop .good)
 
 mul-number : tie.Need-mul-number Inv-loop μ-loop
 mul-number c = search needs
@@ -100,7 +105,7 @@ slice-set-from-number : tie.Need-slice-set-from-number Inv-loop μ-loop
 slice-set-from-number c = search needs
 
 add-at : tie.Need-add-at Inv-loop μ-loop
-add-at c = omega (arith, turn (c .before .before .before .before) .inside)
+add-at c = omega (arith, next (c .before .before .before .before) .inside)
 
 loop-less : tie.Need-loop-less Inv-loop μ-loop
 loop-less c = search needs
@@ -110,7 +115,7 @@ loop-again c =
     let in-loop = c .before .before .before .before in
     let start = begin in-loop in
     rw (c .place .ensures .0, c .before .hook-sum .ensures, start .pre .0 .0)
-    (lift-next _ _ (struck start .all) _ _ (in-loop .before .loop .inv) (more in-loop))
+    (lift-next shapes-placed _ _ (cut-here start .all) _ _ (in-loop .before .loop .inv) (more in-loop))
 
 same-length : tie.Need-same-length Inv-loop μ-loop
 same-length c = search needs
@@ -118,9 +123,9 @@ same-length c = search needs
 returns : tie.Need-returns Inv-loop μ-loop
 returns c =
     let section = c .before .before .before in
-    let s = struck (start-of section) in
+    let s = cut-here (start-of section) in
     rw (s .whole)
-    (lift-end _ _ _ _ (omega (arith, s .ends, ends section, c .loop-test .left)) (c .before .loop .inv))
+    (lift-end shapes-placed _ _ _ _ (omega (arith, s .ends, ends section, c .loop-test .left)) (c .before .loop .inv))
 
 pub lift-spec : {M : Type 1} → statement M
 lift-spec =

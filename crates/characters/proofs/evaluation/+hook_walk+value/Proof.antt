@@ -13,16 +13,16 @@ use Rattle.theory.specs.Partition.{degree}
 use Rattle.theory.specs.ShapeWord.{shapeOf}
 use Rattle.theory.specs.ClassWord.{classOf}
 use Rattle.theory.specs.Character.{_on_}
-use Rattle.characters.proofs.HookSums.{Walked, Turn, walk-start, walk-turn, walk-end}
-use Rattle.characters.proofs.Walks.{walk as walkable, fit-left, degree-falls, struck}
-use Rattle.characters.proofs.Walks.{First, value-empty, value-first, character-carried}
+use Rattle.characters.proofs.HookSums.{Walked, NextHook, word-below, walk-start, walk-next, walk-end}
+use Rattle.characters.proofs.Walks.{walk as walkable, evaluable-left, degree-falls, hook-rule-holds}
+use Rattle.characters.proofs.Walks.{FirstCycle, value-empty, first-cycle, character-carried}
 use Rattle.characters.proofs.evaluation.hook_walk.Reads as walk
 use Rattle.characters.proofs.evaluation.hook_walk.Kinds as walk-kinds
 use Rattle.characters.proofs.evaluation.+hook_walk+value.Lts-hook_walk as walk-lts
 use Rattle.characters.proofs.evaluation.value.Reads as value
 use Rattle.characters.proofs.evaluation.value.Kinds as value-kinds
 use Rattle.characters.proofs.evaluation.+hook_walk+value.Lts-value as value-lts
-use Rattle.characters.proofs.evaluation.added.Reads as added
+use Rattle.characters.proofs.evaluation.add_signed.Reads as added
 use Rattle.characters.proofs.hooks.leaves.Reads as leaves
 use Rattle.characters.proofs.hooks.marks.Reads as marks
 use Rattle.characters.proofs.hooks.minus.Reads as minus
@@ -75,81 +75,86 @@ module _ (t : ℕ) where
   value-calls = (walk-below, walk.Post)
 
   -- ---- the hook walk
+  abbrev In-loop : Type 0
+  In-loop = walk-lts.In-loop walk-calls walk-at walk.Post Inv-loop μ-loop
+
+  abbrev begin : In-loop → walk-lts.Start walk-calls walk-at walk.Post Inv-loop μ-loop
+  begin c = c .before .before .before
+
   marks-requires : walk-lts.Need-marks-requires walk-calls walk-at walk.Post Inv-loop μ-loop
   marks-requires c κs = omega (arith, c .pre .1 .1 .degrees, c .pre .1 .1 .small)
 
   loop-holds : walk-lts.Need-loop-holds walk-calls walk-at walk.Post Inv-loop μ-loop
-  loop-holds c = rw (c .marks .ensures) (walk-start _ _ _ (walkable _ _ _ (c .before .pre .1 .1)))
+  loop-holds c = rw (c .marks .ensures) (walk-start _ _ _ (walkable (c .before .pre .1 .1)))
 
-  turn : (c : walk-lts.In-loop walk-calls walk-at walk.Post Inv-loop μ-loop)
-      → let a = c .before .before .before .args in
-      Turn (on-class (a .class)) (a .shape) (a .cycle) (c .before .loop .left) (toZ w64 (c .before .loop .sum))
-      (leadingZeros 32 (c .before .loop .left)) (1 * 2 ^ (31 - leadingZeros 32 (c .before .loop .left)) % 2 ^ 32)
-  turn c = walk-turn _ _ _ (walkable _ _ _ (c .before .before .before .pre .1 .1)) _ _ (c .before .loop .inv)
-      (c .loop-test .taken)
+  next : (c : In-loop) → let a = begin c .args in
+      let l = c .before .loop in
+      NextHook (on-class (a .class)) (a .shape) (a .cycle) (l .left) (toZ w64 (l .sum)) (leadingZeros 32 (l .left))
+      (1 * 2 ^ (31 - leadingZeros 32 (l .left)) % 2 ^ 32)
+  next c = walk-next _ _ _ (walkable (begin c .pre .1 .1)) _ _ (c .before .loop .inv) (c .loop-test .taken)
 
   sub-place : walk-lts.Need-sub-place walk-calls walk-at walk.Post Inv-loop μ-loop
-  sub-place c = turn c .within
+  sub-place c = next c .within
 
   leaves-requires : walk-lts.Need-leaves-requires walk-calls walk-at walk.Post Inv-loop μ-loop
-  leaves-requires c κs = (omega (arith, c .before .before .before .pre .1 .1 .good), turn c .from, turn c .below)
+  leaves-requires c κs = (word-below _ _ _ (walkable (begin c .pre .1 .1)), next c .from, next c .below)
 
   value-requires : walk-lts.Need-value-requires walk-calls walk-at walk.Post Inv-loop μ-loop
   value-requires c κs =
-      let good = turn (c .before) .left-good in
-      let start = c .before .before .before .before in
-      let fit = start .pre .1 .1 in
+      let good = next (c .before) .left-good in
+      let pre = begin (c .before) .pre in
       rw (c .leaves .ensures)
-      (omega (arith, degree-falls _ _ _ fit _ good, start .pre .0), (start .pre .1 .0, fit-left _ _ _ fit _ good))
+      (omega (arith, degree-falls (pre .1 .1) _ good, pre .0), (pre .1 .0, evaluable-left (pre .1 .1) _ good))
 
   minus-requires : walk-lts.Need-minus-requires walk-calls walk-at walk.Post Inv-loop μ-loop
-  minus-requires c κs = (turn (c .before .before) .from, turn (c .before .before) .below)
+  minus-requires c κs = (next (c .before .before) .from, next (c .before .before) .below)
 
-  added-requires : walk-lts.Need-added-requires walk-calls walk-at walk.Post Inv-loop μ-loop
-  added-requires c κs =
+  add-signed-requires : walk-lts.Need-add-signed-requires walk-calls walk-at walk.Post Inv-loop μ-loop
+  add-signed-requires c κs =
       rw (c .before .value .ensures, c .before .before .leaves .ensures)
-      (turn (c .before .before .before) .room)
+      (next (c .before .before .before) .room)
+
+  abbrev in-loop : walk-lts.After-add-signed walk-calls walk-at walk.Post Inv-loop μ-loop → In-loop
+  in-loop c = c .before .before .before .before
 
   shl-left : walk-lts.Need-shl-left walk-calls walk-at walk.Post Inv-loop μ-loop
-  shl-left c = omega (arith, turn (c .before .before .before .before) .below)
+  shl-left c = omega (arith, next (in-loop c) .below)
 
   sub-left : walk-lts.Need-sub-left walk-calls walk-at walk.Post Inv-loop μ-loop
-  sub-left c = turn (c .before .before .before .before) .takes
+  sub-left c = next (in-loop c) .takes
 
   loop-less : walk-lts.Need-loop-less walk-calls walk-at walk.Post Inv-loop μ-loop
-  loop-less c =
-      let u = turn (c .before .before .before .before) in
-      omega (arith, u .takes, u .some)
+  loop-less c = omega (arith, next (in-loop c) .takes, next (in-loop c) .some)
 
   loop-again : walk-lts.Need-loop-again walk-calls walk-at walk.Post Inv-loop μ-loop
   loop-again c =
       let valued = c .before .before in
-      rw (c .added .ensures, c .before .minus .ensures, valued .value .ensures, valued .before .leaves .ensures)
-      (turn (valued .before .before) .walked)
+      rw (c .add-signed .ensures, c .before .minus .ensures, valued .value .ensures, valued .before .leaves .ensures)
+      (next (in-loop c) .walked)
 
   walk-returns : walk-lts.Need-returns walk-calls walk-at walk.Post Inv-loop μ-loop
   walk-returns c =
-      let fit = c .before .before .before .pre .1 .1 in
-      walk-end _ _ _ (walkable _ _ _ fit) _ (rw (c .loop-test .left) at (c .before .loop .inv)) ∙ struck _ _ _ fit
+      let asked = c .before .before .before .pre .1 .1 in
+      walk-end _ _ _ (walkable asked) _ (rw (c .loop-test .left) at (c .before .loop .inv)) ∙ hook-rule-holds asked
 
   -- ---- the value
   returns : value-lts.Need-returns value-calls value-at value.Post
-  returns c = sym (rw (c .if1 .taken) (value-empty _ (rw (c .if1 .taken) at (c .before .pre .1 .1))))
+  returns c = sym (rw (c .if1 .taken) (value-empty (rw (c .if1 .taken) at (c .before .pre .1 .1))))
 
   first : (c : value-lts.Else1 value-calls value-at value.Post)
-      → First (c .before .args .shape) (c .before .args .class) (leadingZeros 32 (c .before .args .class))
-  first c = value-first _ _ (c .before .pre .1 .0) (c .before .pre .1 .1) (c .if1 .left)
+      → FirstCycle (c .before .args .shape) (c .before .args .class) (leadingZeros 32 (c .before .args .class))
+  first c = first-cycle _ _ (c .before .pre .1 .0) (c .before .pre .1 .1) (c .if1 .left)
 
   shl-hook-walk : value-lts.Need-shl-hook-walk value-calls value-at value.Post
   shl-hook-walk c = first c .bits
 
   walk-requires : value-lts.Need-hook-walk-requires value-calls value-at value.Post
-  walk-requires c κs = (omega (arith, c .before .pre .0), (omega arith, first c .fit))
+  walk-requires c κs = (omega (arith, c .before .pre .0), (omega arith, first c .evaluable))
 
   returns-2 : value-lts.Need-returns-2 value-calls value-at value.Post
   returns-2 c =
       let f = first (c .before) in
-      rw (c .hook-walk .ensures) (character-carried _ _ (f .fit) ∙ sym (f .same))
+      rw (c .hook-walk .ensures) (character-carried (f .evaluable) ∙ sym (f .same))
 
 pub +hook-walk+value-spec : {M : Type 1} → statement M
 +hook-walk+value-spec = close μ-walk μ-value (λ t. walk-lts.spec
@@ -164,7 +169,7 @@ pub +hook-walk+value-spec : {M : Type 1} → statement M
     (leaves-requires t)
     (value-requires t)
     (minus-requires t)
-    (added-requires t)
+    (add-signed-requires t)
     (shl-left t)
     (sub-left t)
     (loop-less t)

@@ -2,7 +2,7 @@
 -- without it; where the cycle stands, what is behind it moves up.
 use native.Mathlib.Omega.{arith}
 use borrow.Author.Needs.{needs}
-use Rattle.words.proofs.ClassLoops.{Turn, turn}
+use Rattle.words.proofs.ClassLoops.{NextPart, next-part}
 use Rattle.characters.proofs.Cycles.{Striking, strike-start, strike-end, strike-fits, strike-hit, strike-miss}
 use Rattle.characters.proofs.lines.strike.Statement.{statement}
 use Rattle.characters.proofs.lines.strike.Tie as tie
@@ -13,8 +13,8 @@ Inv-loop class cycle rest₀ at₀ rest at = Striking class cycle at rest
 abbrev μ-loop : tie.MeasureT-loop
 μ-loop class cycle rest₀ at₀ rest at = rest
 
-step : (c : tie.In-loop Inv-loop μ-loop) → Turn (c .before .loop .at) (c .before .loop .rest)
-step c = turn _ _ (c .loop-test .taken) (c .before .loop .inv .below)
+step : (c : tie.In-loop Inv-loop μ-loop) → NextPart (c .before .loop .at) (c .before .loop .rest)
+step c = next-part _ _ (c .loop-test .taken) (c .before .loop .inv .below)
 
 loop-holds : tie.Need-loop-holds Inv-loop μ-loop
 loop-holds c = strike-start _ _ (c .pre)

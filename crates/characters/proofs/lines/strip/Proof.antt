@@ -9,8 +9,10 @@ use mir.Val.{toZ}
 use borrow.Author.Needs.{needs}
 use Rattle.theory.specs.Hooks.{Hook}
 use Rattle.theory.specs.Hooks.Marks.{markedHook}
-use Rattle.characters.specs.Line.{lineMinus, lineShape, multiplied}
-use Rattle.characters.proofs.Strips.{Stripping, HookTurn, cycle-short, strip-start, strip-turn, strip-end}
+use Rattle.theory.specs.Digits.{bit}
+use Rattle.characters.specs.Page.{lineOf}
+use Rattle.characters.specs.Private.Striking.{multiplied}
+use Rattle.characters.proofs.Strips.{Stripping, NextHookLine, cycle-short, strip-start, strip-next, strip-end}
 use Rattle.characters.proofs.lines.strip.Statement.{statement}
 use Rattle.characters.proofs.lines.strip.Tie as tie
 
@@ -24,12 +26,12 @@ abbrev μ-loop : tie.MeasureT-loop
 abbrev start : tie.At-loop Inv-loop μ-loop → tie.Start Inv-loop μ-loop
 start c = c .before .before .before .before .before
 
-turn : (c : tie.In-loop Inv-loop μ-loop)
+next : (c : tie.In-loop Inv-loop μ-loop)
     → let a = start (c .before) .args in
     let l = c .before .loop in
-    HookTurn (a .cycle) (a .line) (a .class) (a .strip .now) (l .marks) (l .strip) (l .count) (toZ w64 (l .settled))
+    NextHookLine (a .cycle) (a .line) (a .class) (a .strip .now) (l .marks) (l .strip) (l .count) (toZ w64 (l .settled))
     (leadingZeros 32 (l .marks)) (1 * 2 ^ (31 - leadingZeros 32 (l .marks)) % 2 ^ 32)
-turn c = strip-turn _ _ _ _ (start (c .before) .pre) _ _ _ _ (c .before .loop .inv) (c .loop-test .taken)
+next c = strip-next _ _ _ _ (start (c .before) .pre) _ _ _ _ (c .before .loop .inv) (c .loop-test .taken)
 
 -- the hook at the highest mark: what it leaves, and its sign with that of the line
 abbrev place : tie.After-product Inv-loop μ-loop → ℕ
@@ -38,7 +40,7 @@ place c = 31 - leadingZeros 32 (c .before .before .before .before .loop .marks)
 abbrev hook : tie.After-product Inv-loop μ-loop → Hook ℕ
 hook c =
     let a = start (c .before .before .before .before) .args in
-    markedHook (a .cycle) (lineShape (a .line)) (place c)
+    markedHook (a .cycle) (lineOf (a .line) .shape) (place c)
 
 leaves-is : (c : tie.After-product Inv-loop μ-loop) → c .before .before .leaves .result ≡ hook c .leaves
 leaves-is c =
@@ -48,7 +50,7 @@ leaves-is c =
     ∙ ap (λ (s : ℕ). markedHook (a .cycle) s (place c) .leaves) (marked .before .before .shape .ensures)
 
 sign-is : (c : tie.After-product Inv-loop μ-loop) → let x = start (c .before .before .before .before) .args .line in
-    c .product .result ≡ multiplied (lineMinus x) (hook c .minus)
+    c .product .result ≡ multiplied (bit 63 x) (hook c .minus)
 sign-is c =
     let marked = c .before .before .before .before .before in
     let a = start (c .before .before .before .before) .args in
@@ -72,40 +74,40 @@ loop-holds c =
     (strip-start _ _ _ _ (c .before .before .before .before .pre))
 
 sub-place : tie.Need-sub-place Inv-loop μ-loop
-sub-place c = turn c .within
+sub-place c = next c .within
 
 leaves-requires : tie.Need-leaves-requires Inv-loop μ-loop
 leaves-requires c κs =
-    (omega (arith, c .before .before .before .before .shape .ensures), turn c .from, turn c .below)
+    (omega (arith, c .before .before .before .before .shape .ensures), next c .from, next c .below)
 
 minus-requires-2 : tie.Need-minus-requires-2 Inv-loop μ-loop
-minus-requires-2 c κs = (turn (c .before) .from, turn (c .before) .below)
+minus-requires-2 c κs = (next (c .before) .from, next (c .before) .below)
 
 product-requires : tie.Need-product-requires Inv-loop μ-loop
 product-requires c κs = search needs
 
 shl-marks : tie.Need-shl-marks Inv-loop μ-loop
-shl-marks c = omega (arith, turn (c .before .before .before) .below)
+shl-marks c = omega (arith, next (c .before .before .before) .below)
 
 sub-marks : tie.Need-sub-marks Inv-loop μ-loop
-sub-marks c = turn (c .before .before .before) .takes
+sub-marks c = next (c .before .before .before) .takes
 
-added-requires : tie.Need-added-requires Inv-loop μ-loop
-added-requires c κs = turn (c .before .before .before .before) .room
+add-signed-requires : tie.Need-add-signed-requires Inv-loop μ-loop
+add-signed-requires c κs = next (c .before .before .before .before) .room
 
 loop-less : tie.Need-loop-less Inv-loop μ-loop
 loop-less c =
-    let u = turn (c .before .before .before .before .before) in
+    let u = next (c .before .before .before .before .before) in
     omega (arith, u .takes, u .some)
 
 loop-again : tie.Need-loop-again Inv-loop μ-loop
 loop-again c =
     let p = c .before .before in
-    rw (c .added .ensures, sign-is p)
-    (turn (p .before .before .before) .goes (sym (leaves-is p) ∙ c .before .if1 .taken))
+    rw (c .add-signed .ensures, sign-is p)
+    (next (p .before .before .before) .goes (sym (leaves-is p) ∙ c .before .if1 .taken))
 
 word-requires : tie.Need-word-requires Inv-loop μ-loop
-word-requires c κs = rw (leaves-is (c .before)) (turn (c .before .before .before .before) .small)
+word-requires c κs = rw (leaves-is (c .before)) (next (c .before .before .before .before) .small)
 
 mul-strip : tie.Need-mul-strip Inv-loop μ-loop
 mul-strip c = search needs
@@ -113,21 +115,21 @@ mul-strip c = search needs
 slice-write-strip : tie.Need-slice-write-strip Inv-loop μ-loop
 slice-write-strip c =
     let p = c .before .before in
-    turn (p .before .before .before) .inside (λ none. c .before .if1 .left (leaves-is p ∙ none))
+    next (p .before .before .before) .inside (λ none. c .before .if1 .left (leaves-is p ∙ none))
 
 add-count : tie.Need-add-count Inv-loop μ-loop
 add-count c = search needs
 
 loop-less-2 : tie.Need-loop-less-2 Inv-loop μ-loop
 loop-less-2 c =
-    let u = turn (c .before .before .before .before .before) in
+    let u = next (c .before .before .before .before .before) in
     omega (arith, u .takes, u .some)
 
 loop-again-2 : tie.Need-loop-again-2 Inv-loop μ-loop
 loop-again-2 c =
     let p = c .before .before in
     rw (c .word .ensures, sign-is p, leaves-is p)
-    (turn (p .before .before .before) .stays (λ none. c .before .if1 .left (leaves-is p ∙ none)))
+    (next (p .before .before .before) .stays (λ none. c .before .if1 .left (leaves-is p ∙ none)))
 
 same-length : tie.Need-same-length Inv-loop μ-loop
 same-length c = c .before .loop .inv .coming .puts .same
@@ -151,7 +153,7 @@ strip-spec =
     product-requires
     shl-marks
     sub-marks
-    added-requires
+    add-signed-requires
     loop-less
     loop-again
     word-requires

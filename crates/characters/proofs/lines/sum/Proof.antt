@@ -5,33 +5,35 @@ use borrow.Author.Needs.{needs}
 use mir.Syntax.{w64}
 use mir.Val.{toZ}
 use Rattle.theory.specs.Basics.{length}
+use Rattle.theory.specs.Bounds.Laws.{largestLimit}
 use Rattle.characters.proofs.Sums.{Summing, NextLine, sum-start, sum-next, sum-end}
 use Rattle.characters.proofs.lines.sum.Statement.{statement}
 use Rattle.characters.proofs.lines.sum.Tie as tie
 
 abbrev Inv-loop : tie.InvT-loop
-Inv-loop lines sum₀ i₀ sum i = Summing lines i (toZ w64 sum)
+Inv-loop lines sum₀ i₀ sum i = Summing largestLimit lines i (toZ w64 sum)
 
 abbrev μ-loop : tie.MeasureT-loop
 μ-loop lines sum₀ i₀ sum i = length lines - i
 
 next : (c : tie.In-loop Inv-loop μ-loop)
-    → NextLine (c .before .before .before .args .lines .now) (c .before .loop .i) (toZ w64 (c .before .loop .sum))
+    → NextLine largestLimit (c .before .before .before .args .lines .now) (c .before .loop .i)
+    (toZ w64 (c .before .loop .sum))
 next c =
     let start = c .before .before .before in
-    sum-next _ (start .pre .0) (start .pre .1) _ _ (c .before .loop .inv) (c .loop-test .taken)
+    sum-next _ _ (start .pre .0) (start .pre .1) _ _ (c .before .loop .inv) (c .loop-test .taken)
 
 loop-holds : tie.Need-loop-holds Inv-loop μ-loop
-loop-holds c = sum-start _ (c .before .pre .0) (c .before .pre .1)
+loop-holds c = sum-start _ _ (c .before .pre .0) (c .before .pre .1)
 
-mul-added : tie.Need-mul-added Inv-loop μ-loop
-mul-added c = search needs
+mul-add-line : tie.Need-mul-add-line Inv-loop μ-loop
+mul-add-line c = search needs
 
-shared-slice-read-added : tie.Need-shared-slice-read-added Inv-loop μ-loop
-shared-slice-read-added c = search needs
+shared-slice-read-add-line : tie.Need-shared-slice-read-add-line Inv-loop μ-loop
+shared-slice-read-add-line c = search needs
 
-added-requires : tie.Need-added-requires Inv-loop μ-loop
-added-requires c κs = (next (c .before) .fair, next (c .before) .room)
+add-line-requires : tie.Need-add-line-requires Inv-loop μ-loop
+add-line-requires c κs = (next (c .before) .soundness, next (c .before) .room)
 
 add-i : tie.Need-add-i Inv-loop μ-loop
 add-i c = search needs
@@ -40,12 +42,12 @@ loop-less : tie.Need-loop-less Inv-loop μ-loop
 loop-less c = omega arith
 
 loop-again : tie.Need-loop-again Inv-loop μ-loop
-loop-again c = rw (c .added .ensures) (next (c .before .before) .again)
+loop-again c = rw (c .add-line .ensures) (next (c .before .before) .again)
 
 returns : tie.Need-returns Inv-loop μ-loop
 returns c =
     let start = c .before .before .before in
-    sum-end _ (start .pre .0) (start .pre .1) _ _ (c .before .loop .inv) (c .loop-test .left)
+    sum-end _ _ (start .pre .0) (start .pre .1) _ _ (c .before .loop .inv) (c .loop-test .left)
 
 pub sum-spec : {M : Type 1} → statement M
 sum-spec =
@@ -54,9 +56,9 @@ sum-spec =
     Inv-loop
     μ-loop
     loop-holds
-    mul-added
-    shared-slice-read-added
-    added-requires
+    mul-add-line
+    shared-slice-read-add-line
+    add-line-requires
     add-i
     loop-less
     loop-again

@@ -7,11 +7,11 @@ use Rattle.characters.proofs.page.exchange.Tie as tie
 take-out-requires : tie.Need-take-out-requires
 take-out-requires c κs = search needs
 
-sub-put : tie.Need-sub-put
-sub-put c = search needs
+sub-write-strip : tie.Need-sub-write-strip
+sub-write-strip c = search needs
 
-put-requires : tie.Need-put-requires
-put-requires c κs = search needs
+write-strip-requires : tie.Need-write-strip-requires
+write-strip-requires c κs = search needs
 
 same-length : tie.Need-same-length
 same-length c = search needs
@@ -22,4 +22,4 @@ returns c =
     cc (out-and-put _ _ _ _ (start .pre))
 
 pub exchange-spec : {M : Type 1} → statement M
-exchange-spec = tie.close (tie.spec take-out-requires sub-put put-requires same-length returns)
+exchange-spec = tie.close (tie.spec take-out-requires sub-write-strip write-strip-requires same-length returns)

@@ -6,7 +6,7 @@ use native.Mathlib.Omega.{arith}
 use borrow.Author.Needs.{needs}
 use lib.ListN.{length-set}
 use Rattle.theory.specs.Basics.{length}
-use Rattle.characters.specs.Pages.{takenOut}
+use Rattle.characters.specs.Private.Pages.{takenOut}
 use Rattle.characters.proofs.Pages.{out-next, out-last}
 use Rattle.characters.proofs.page.take_out.Statement.{statement}
 use Rattle.characters.proofs.page.take_out.Tie as tie

@@ -1,14 +1,16 @@
--- `characters::sessions::open` meets its contract: each return is the first row that applies, or a page with its line.
+-- `characters::sessions::open` meets its contract: each return is the first check that applies, or the opened page.
 use mathlib.Core.Path.{_∙_, sym}
 use native.Mathlib.Omega.{arith}
 use borrow.Author.Needs.{needs}
-use Rattle.characters.proofs.Judging.{Pair, pair-refused, pair-passed}
+use Rattle.theory.specs.Limits.{degreeLimit}
+use Rattle.theory.specs.ShapeWord.Good.{good-shape}
+use Rattle.characters.proofs.WordPairs.{Pair, pair-refused, pair-passed}
 use Rattle.characters.proofs.Openings.{words-refuse, page-refuses, empty-opens, room-refuses, line-opens}
 use Rattle.characters.proofs.sessions.open.Statement.{statement}
 use Rattle.characters.proofs.sessions.open.Tie as tie
 
-judge-requires : tie.Need-judge-requires
-judge-requires c κs = search needs
+common-degree-requires : tie.Need-common-degree-requires
+common-degree-requires c κs = search needs
 
 unopened-requires : tie.Need-unopened-requires
 unopened-requires c κs = search needs
@@ -16,21 +18,20 @@ unopened-requires c κs = search needs
 returns : tie.Need-returns
 returns c =
     let j = c .before .before .before in
-    rw (c .unopened .ensures) (words-refuse _ _ _ _ (pair-refused _ _ _ (j .judge .ensures)) (c .before .if1 .taken))
+    rw (c .unopened .ensures)
+    (words-refuse _ _ _ _ _ (pair-refused _ _ _ _ (j .common-degree .ensures)) (c .before .if1 .taken))
 
 pair : (c : tie.Else1)
     → let j = c .before .before in
     let a = j .before .before .args in
-    Pair (a .shape) (a .class) (j .judge .result)
-pair c =
-    let j = c .before .before in
-    pair-passed _ _ _ (j .judge .ensures) (j .before .before .fits .class .fits) (c .if1 .left)
+    Pair degreeLimit (a .shape) (a .class) (j .common-degree .result)
+pair c = pair-passed _ _ _ _ (c .before .before .common-degree .ensures) (c .if1 .left)
 
 unopened-requires-2 : tie.Need-unopened-requires-2
 unopened-requires-2 c κs = search needs
 
 returns-2 : tie.Need-returns-2
-returns-2 c = rw (c .unopened2 .ensures) (page-refuses _ _ _ (pair (c .before .before) .none) (c .before .if2 .taken))
+returns-2 c = rw (c .unopened2 .ensures) (page-refuses _ _ _ _ (pair (c .before .before) .none) (c .before .if2 .taken))
 
 clear-requires : tie.Need-clear-requires
 clear-requires c κs = search needs
@@ -44,7 +45,7 @@ returns-3 c =
     let else2 = then .before .before in
     let p = pair (else2 .before) in
     rw (c .before .before .clear .ensures)
-    (empty-opens _ _ _ (p .none) (else2 .if2 .left) (sym (p .degree) ∙ then .if3 .taken))
+    (empty-opens _ _ _ _ (p .none) (else2 .if2 .left) (sym (p .degree) ∙ then .if3 .taken))
 
 unopened-requires-3 : tie.Need-unopened-requires-3
 unopened-requires-3 c κs = search needs
@@ -55,7 +56,7 @@ returns-4 c =
     let else2 = else3 .before .before in
     let p = pair (else2 .before) in
     rw (c .unopened3 .ensures)
-    (room-refuses _ _ _ (p .none) (else2 .if2 .left) (λ none. else3 .if3 .left (p .degree ∙ none))
+    (room-refuses _ _ _ _ (p .none) (else2 .if2 .left) (λ none. else3 .if3 .left (p .degree ∙ none))
     (c .before .if4 .taken))
 
 clear-requires-2 : tie.Need-clear-requires-2
@@ -64,7 +65,8 @@ clear-requires-2 c κs = search needs
 word-requires : tie.Need-word-requires
 word-requires c κs =
     let else2 = c .before .before .before .before .before .before .before in
-    omega (arith, pair (else2 .before) .fit .good)
+    let start = else2 .before .before .before .before .before in
+    omega (arith, good-shape (start .args .shape) (pair (else2 .before) .evaluable .good) .below)
 
 slice-write-page : tie.Need-slice-write-page
 slice-write-page c = search needs
@@ -79,13 +81,13 @@ returns-5 c =
     let else2 = else3 .before .before in
     let p = pair (else2 .before) in
     rw (c .before .before .before .clear2 .ensures, c .word .ensures)
-    (line-opens _ _ _ (p .none) (else2 .if2 .left) (λ none. else3 .if3 .left (p .degree ∙ none)) (else4 .if4 .left))
+    (line-opens _ _ _ _ (p .none) (else2 .if2 .left) (λ none. else3 .if3 .left (p .degree ∙ none)) (else4 .if4 .left))
 
 pub open-spec : {M : Type 1} → statement M
 open-spec =
     tie.close
     (tie.spec
-    judge-requires
+    common-degree-requires
     unopened-requires
     returns
     unopened-requires-2

@@ -4,17 +4,20 @@ use mathlib.Core.Path.{_≡_, refl, sym, _∙_}
 use Prim.Native.Nat.{_-_, _≤_}
 use native.Mathlib.Omega.{arith}
 use borrow.Author.Needs.{needs}
-use Rattle.theory.specs.Basics.{length, drop}
-use Rattle.theory.specs.Refusals.{degreeLimit}
+use Rattle.theory.specs.Basics.{map, length, drop}
+use Rattle.theory.specs.Limits.{degreeLimit}
+use Rattle.characters.specs.Page.{lineOf}
 use Rattle.characters.specs.Sound.Budget.{affords}
-use Rattle.characters.proofs.Budgets.{sound-small, tabled-is, not-a-line, too-dear, too-long}
+use Rattle.characters.proofs.Budgets.{sound-small, not-a-line, too-dear, too-long}
 use Rattle.characters.proofs.Budgets.{afforded-next, afforded-all}
+use Rattle.characters.proofs.SpanTable.{tabled-is}
 use Rattle.characters.proofs.soundness.affords.Statement.{statement}
 use Rattle.characters.proofs.soundness.affords.Tie as tie
 
 abbrev Inv-loop : tie.InvT-loop
 Inv-loop n value span lines factorials spans value-left₀ span-left₀ i₀ value-left span-left i =
-    (i ≤ length lines) × (affords n value-left span-left (drop i lines) ≡ affords n value span lines)
+    (i ≤ length lines)
+    × (affords n value-left span-left (map lineOf (drop i lines)) ≡ affords n value span (map lineOf lines))
 
 abbrev μ-loop : tie.MeasureT-loop
 μ-loop n value span lines factorials spans value-left₀ span-left₀ i₀ value-left span-left i = length lines - i
@@ -23,7 +26,8 @@ abbrev start : tie.At-loop Inv-loop μ-loop → tie.Start Inv-loop μ-loop
 start c = c .before .before .before .before
 
 small : (c : tie.After-degree Inv-loop μ-loop) → c .degree .result ≤ degreeLimit
-small c = sound-small _ _ _ (c .degree .ensures) (start (c .before .before .before) .pre .0)
+small c =
+    omega (arith, sound-small _ _ _ (c .degree .ensures), start (c .before .before .before) .pre .0)
 
 loop-holds : tie.Need-loop-holds Inv-loop μ-loop
 loop-holds c = (omega arith, refl)
@@ -53,7 +57,7 @@ mul-factorial c = search needs
 shared-slice-read-factorial : tie.Need-shared-slice-read-factorial Inv-loop μ-loop
 shared-slice-read-factorial c =
     let d = c .before .before in
-    omega (arith, small d, start (d .before .before .before) .pre .1 .size)
+    omega (arith, small d, start (d .before .before .before) .pre .1 .0 .size)
 
 returns-2 : tie.Need-returns-2 Inv-loop μ-loop
 returns-2 c =
@@ -61,7 +65,7 @@ returns-2 c =
     let l = d .before .before .before in
     sym
     (too-dear _ _ _ _ _ (d .before .before .loop-test .taken) _ (d .degree .ensures) (c .before .before .if1 .left) _
-    (tabled-is (start l .pre .1) _ (small d)) (c .if2 .taken))
+    (tabled-is (start l .pre .1 .0) _ (small d)) (c .if2 .taken))
     ∙ l .loop .inv .1
 
 mul-most : tie.Need-mul-most Inv-loop μ-loop
@@ -70,7 +74,7 @@ mul-most c = search needs
 shared-slice-read-most : tie.Need-shared-slice-read-most Inv-loop μ-loop
 shared-slice-read-most c =
     let d = c .before .before .before .before in
-    omega (arith, small d, start (d .before .before .before) .pre .2 .size)
+    omega (arith, small d, start (d .before .before .before) .pre .1 .1 .size)
 
 returns-3 : tie.Need-returns-3 Inv-loop μ-loop
 returns-3 c =
@@ -78,8 +82,8 @@ returns-3 c =
     let l = d .before .before .before in
     sym
     (too-long _ _ _ _ _ (d .before .before .loop-test .taken) _ (d .degree .ensures)
-    (c .before .before .before .before .if1 .left) _ (tabled-is (start l .pre .1) _ (small d))
-    (c .before .before .if2 .left) _ (tabled-is (start l .pre .2) _ (small d)) (c .if3 .taken))
+    (c .before .before .before .before .if1 .left) _ (tabled-is (start l .pre .1 .0) _ (small d))
+    (c .before .before .if2 .left) _ (tabled-is (start l .pre .1 .1) _ (small d)) (c .if3 .taken))
     ∙ l .loop .inv .1
 
 add-i : tie.Need-add-i Inv-loop μ-loop
@@ -94,8 +98,8 @@ loop-again c =
     let l = d .before .before .before in (
       omega arith,
       afforded-next _ _ _ _ _ (d .before .before .loop-test .taken) _ (d .degree .ensures)
-          (c .before .before .before .before .if1 .left) _ (tabled-is (start l .pre .1) _ (small d))
-          (c .before .before .if2 .left) _ (tabled-is (start l .pre .2) _ (small d)) (c .if3 .left)
+          (c .before .before .before .before .if1 .left) _ (tabled-is (start l .pre .1 .0) _ (small d))
+          (c .before .before .if2 .left) _ (tabled-is (start l .pre .1 .1) _ (small d)) (c .if3 .left)
           ∙ l .loop .inv .1,
     )
 

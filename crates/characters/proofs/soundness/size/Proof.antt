@@ -5,7 +5,7 @@ use lib.IntN.{natAbs}
 use lib.Signed.{nonNeg}
 use borrow.Author.Tests.{not-false}
 use mir.Facts.{toZ-ofZ}
-use Rattle.characters.proofs.Signed.{Turned, turned-up, below-zero, upright}
+use Rattle.characters.proofs.Signed.{Turned, turned-up, below-zero, not-below-zero}
 use Rattle.characters.proofs.soundness.size.Statement.{statement}
 use Rattle.characters.proofs.soundness.size.Tie as tie
 
@@ -28,7 +28,7 @@ cast-result-2 : tie.Need-cast-result-2
 cast-result-2 c =
     let z = c .before .args .z in
     let fits = c .before .fits .z in
-    let u = upright z fits (not-false (nonNeg z) (sym (below-zero z fits) ∙ c .if1 .left)) in
+    let u = not-below-zero z fits (not-false (nonNeg z) (sym (below-zero z fits) ∙ c .if1 .left)) in
     (u .0, record { fits = omega (arith, u .1) })
 
 returns : tie.Need-returns

@@ -4,7 +4,7 @@ use Prim.Native.Nat.{_-_, _≤_}
 use native.Mathlib.Omega.{arith}
 use borrow.Author.Needs.{needs}
 use Rattle.theory.specs.Basics.{length, drop, _=?_, every}
-use Rattle.characters.proofs.Budgets.{not-zero, zero-next, zero-all}
+use Rattle.characters.proofs.Zeros.{not-zero, zero-next, no-word-left}
 use Rattle.characters.proofs.soundness.zeros.Statement.{statement}
 use Rattle.characters.proofs.soundness.zeros.Tie as tie
 
@@ -40,7 +40,7 @@ loop-again c =
     (omega arith, zero-next _ _ (c .before .before .loop-test .taken) (c .if1 .left) ∙ l .loop .inv .1)
 
 returns-2 : tie.Need-returns-2 Inv-loop μ-loop
-returns-2 c = sym (zero-all _ _ (c .loop-test .left)) ∙ c .before .loop .inv .1
+returns-2 c = sym (no-word-left _ _ (c .loop-test .left)) ∙ c .before .loop .inv .1
 
 pub zeros-spec : {M : Type 1} → statement M
 zeros-spec =

@@ -2,8 +2,8 @@
 use borrow.Author.Needs.{needs}
 use Rattle.theory.specs.Basics.{_++_, map}
 use Rattle.tabletext.specs.Table.{Text, decimal, integer, commas, field, classText}
-use Rattle.tabletext.specs.Writing.{Wrote}
-use Rattle.tabletext.specs.Writing.Laws.{first-room, wrote-room, wrote-then}
+use Rattle.tabletext.specs.Private.Writing.{Wrote}
+use Rattle.tabletext.specs.Private.Writing.Laws.{first-room, wrote-room, wrote-then}
 use Rattle.tabletext.proofs.fields.class.Statement.{statement}
 use Rattle.tabletext.proofs.fields.class.Tie as tie
 
@@ -17,8 +17,10 @@ module _ (c : tie.Start) where
   abbrev values-line : Text
   values-line = field "values=" (commas (map integer (c .args .column .now)))
 
-two-lines : (c : tie.After-number)
-    → let s = c .before .before .before .before .before .before .before .before .before in
+abbrev begin : tie.After-number → tie.Start
+begin c = c .before .before .before .before .before .before .before .before .before
+
+two-lines : (c : tie.After-number) → let s = begin c in
     Wrote (class-line s ++ size-line s) (s .args .at) (s .args .out .now) (c .number .result) (c .number .last .1 .1 .0)
 two-lines c = wrote-then (c .before .before .before .before .before .parts .ensures) (c .number .ensures)
 
@@ -42,7 +44,7 @@ values-requires : tie.Need-values-requires
 unfolding classText
 values-requires c κs =
     let n = c .before .before .before in
-    let s = n .before .before .before .before .before .before .before .before .before in
+    let s = begin n in
     wrote-room (two-lines n) (values-line s) (s .pre)
 
 same-length : tie.Need-same-length

@@ -2,17 +2,20 @@
 use borrow.Author.Needs.{needs}
 use Rattle.theory.specs.Basics.{_++_}
 use Rattle.tabletext.specs.Table.{ascii, decimal}
-use Rattle.tabletext.specs.Writing.{Wrote}
-use Rattle.tabletext.specs.Writing.Laws.{first-room, wrote-room, wrote-then}
+use Rattle.tabletext.specs.Private.Writing.{Wrote}
+use Rattle.tabletext.specs.Private.Writing.Laws.{first-room, wrote-room, wrote-then}
 use Rattle.tabletext.proofs.fields.number.Statement.{statement}
 use Rattle.tabletext.proofs.fields.number.Tie as tie
 
-named : (c : tie.After-decimal) → let a = c .before .before .before .before .before .before .before .before .args in
-    Wrote (a .name .now ++ decimal (a .n)) (a .at) (a .out .now) (c .decimal .result) (c .decimal .last .1 .0)
-named c = wrote-then (c .before .before .before .before .put .ensures) (c .decimal .ensures)
+abbrev begin : tie.After-decimal → tie.Start
+begin c = c .before .before .before .before .before .before .before .before
 
-put-requires : tie.Need-put-requires
-put-requires c κs =
+named : (c : tie.After-decimal) → let a = begin c .args in
+    Wrote (a .name .now ++ decimal (a .n)) (a .at) (a .out .now) (c .decimal .result) (c .decimal .last .1 .0)
+named c = wrote-then (c .before .before .before .before .write-bytes .ensures) (c .decimal .ensures)
+
+write-bytes-requires : tie.Need-write-bytes-requires
+write-bytes-requires c κs =
     let s = c .before .before .before in
     first-room (s .args .name .now) (decimal (s .args .n)) _ _
     (first-room (s .args .name .now ++ decimal (s .args .n)) (ascii "\n") _ _ (s .pre))
@@ -21,16 +24,16 @@ decimal-requires : tie.Need-decimal-requires
 decimal-requires c κs =
     let p = c .before .before .before in
     let s = p .before .before .before .before in
-    wrote-room (p .put .ensures) (decimal (s .args .n))
+    wrote-room (p .write-bytes .ensures) (decimal (s .args .n))
     (first-room (s .args .name .now ++ decimal (s .args .n)) (ascii "\n") _ _ (s .pre))
 
-slice-aggregate-put : tie.Need-slice-aggregate-put
-slice-aggregate-put c = search needs
+slice-aggregate-write-bytes : tie.Need-slice-aggregate-write-bytes
+slice-aggregate-write-bytes c = search needs
 
-put-requires-2 : tie.Need-put-requires-2
-put-requires-2 c κs =
+write-bytes-requires-2 : tie.Need-write-bytes-requires-2
+write-bytes-requires-2 c κs =
     let d = c .before .before .before .before in
-    wrote-room (named d) (ascii "\n") (d .before .before .before .before .before .before .before .before .pre)
+    wrote-room (named d) (ascii "\n") (begin d .pre)
 
 same-length : tie.Need-same-length
 same-length c = search needs
@@ -38,15 +41,15 @@ same-length c = search needs
 returns : tie.Need-returns
 returns c =
     let p = c .before .before in
-    wrote-then (named (p .before .before .before .before .before)) (p .put2 .ensures)
+    wrote-then (named (p .before .before .before .before .before)) (p .write-bytes2 .ensures)
 
 pub number-spec : {M : Type 1} → statement M
 number-spec =
     tie.close
     (tie.spec
-    put-requires
+    write-bytes-requires
     decimal-requires
-    slice-aggregate-put
-    put-requires-2
+    slice-aggregate-write-bytes
+    write-bytes-requires-2
     same-length
     returns)

@@ -4,15 +4,11 @@ use Prim.Native.Nat.{_≤_}
 use borrow.Author.Needs.{needs}
 use Rattle.theory.specs.Basics.{_-_, length}
 use Rattle.tabletext.specs.Table.{decimal}
-use Rattle.tabletext.specs.Writing.Laws.{wrote-length}
+use Rattle.tabletext.specs.Private.Writing.Laws.{wrote-length}
 use Rattle.tabletext.proofs.ListLoops.{Reached, reached-none, reached-next, reached-all}
 use Rattle.tabletext.proofs.ListLoops.{separator-room, element-room}
 use Rattle.tabletext.proofs.lists.parts.Statement.{statement}
 use Rattle.tabletext.proofs.lists.parts.Tie as tie
-use Rattle.tabletext.proofs.lists.parts.Reads as reads
-use Rattle.tabletext.proofs.lists.parts.Lts as lts
-use Rattle.tabletext.proofs.lists.separator.Reads as separator-reads
-use Rattle.tabletext.proofs.text.decimal.Reads as decimal-reads
 
 abbrev Inv-loop : tie.InvT-loop
 Inv-loop parts out₀ at end₀ i₀ out end i = (i ≤ length parts) × Reached decimal parts at out₀ i end out

@@ -5,15 +5,11 @@ use mir.Facts.{toZ-ofZ}
 use borrow.Author.Needs.{needs, sfits-of}
 use Rattle.theory.specs.Basics.{_-_, length, pos}
 use Rattle.tabletext.specs.Table.{integer}
-use Rattle.tabletext.specs.Writing.Laws.{wrote-length}
+use Rattle.tabletext.specs.Private.Writing.Laws.{wrote-length}
 use Rattle.tabletext.proofs.ListLoops.{Reached, reached-none, reached-next, reached-all}
 use Rattle.tabletext.proofs.ListLoops.{separator-room, element-room}
 use Rattle.tabletext.proofs.lists.values.Statement.{statement}
 use Rattle.tabletext.proofs.lists.values.Tie as tie
-use Rattle.tabletext.proofs.lists.values.Reads as reads
-use Rattle.tabletext.proofs.lists.values.Lts as lts
-use Rattle.tabletext.proofs.lists.separator.Reads as separator-reads
-use Rattle.tabletext.proofs.text.integer.Reads as integer-reads
 
 abbrev Inv-loop : tie.InvT-loop
 Inv-loop values out₀ at end₀ i₀ out end i = (i ≤ length values) × Reached integer values at out₀ i end out

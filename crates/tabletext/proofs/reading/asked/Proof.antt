@@ -8,23 +8,25 @@ use lib.Seq.{length-take-le}
 use borrow.Author.Needs.{needs}
 use Rattle.theory.specs.Basics.{take, length}
 use Rattle.tabletext.specs.Table.Asked.{asking, asking-short}
-use Rattle.tabletext.specs.Reading.{candidate}
-use Rattle.tabletext.specs.Reading.Laws.{candidate-small, read-asked, read-nothing}
-use Rattle.tabletext.specs.Writing.Laws.{wrote-take, wrote-length}
+use Rattle.tabletext.specs.Private.Reading.{candidate}
+use Rattle.tabletext.specs.Private.Reading.Laws.{candidate-small, read-asked, read-nothing}
+use Rattle.tabletext.specs.Private.Writing.Laws.{wrote-take, wrote-length}
 use Rattle.tabletext.proofs.reading.asked.Statement.{statement}
 use Rattle.tabletext.proofs.reading.asked.Tie as tie
 
 small : (c : tie.After-candidate) → length (asking (c .candidate .result)) ≤ 10
 small c = asking-short _ (rw (c .candidate .ensures) (candidate-small (c .before .before .args .input .now)))
 
+abbrev read : tie.After-number → tie.After-candidate
+read c = c .before .before .before
+
 line : (c : tie.After-number) → take (c .number .result) (c .number .last .1 .1 .0)
-    ≡ asking (candidate (c .before .before .before .before .before .args .input .now))
+    ≡ asking (candidate (read c .before .before .args .input .now))
 line c =
-    let n = c .before .before .before in
-    wrote-take (c .number .ensures) (small n) ∙ ap asking (n .candidate .ensures)
+    wrote-take (c .number .ensures) (small (read c)) ∙ ap asking (read c .candidate .ensures)
 
 within : (c : tie.After-number) → c .number .result ≤ length (c .number .last .1 .1 .0)
-within c = omega (arith, c .number .ensures .ends, wrote-length (c .number .ensures), small (c .before .before .before))
+within c = omega (arith, c .number .ensures .ends, wrote-length (c .number .ensures), small (read c))
 
 candidate-requires : tie.Need-candidate-requires
 candidate-requires c κs = search needs
@@ -52,9 +54,8 @@ same-requires c κs = search needs
 
 returns : tie.Need-returns
 returns c =
-    let n = c .before .before .before .before .before .before .before in
-    let l = line (c .before .before .before .before) in
-    rw (read-asked _ (c .before .same .ensures .0 (c .if1 .taken) ∙ l)) (n .candidate .ensures)
+    let n = c .before .before .before .before in
+    rw (read-asked _ (c .before .same .ensures .0 (c .if1 .taken) ∙ line n)) (read n .candidate .ensures)
 
 returns-2 : tie.Need-returns-2
 returns-2 c =

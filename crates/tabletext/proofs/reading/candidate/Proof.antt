@@ -4,16 +4,18 @@ use mathlib.Core.Path.{_≡_, _∙_, ap, ap₂}
 use borrow.Author.Tests.{eq-eqb, ne-eqb}
 use borrow.Author.Needs.{needs}
 use Rattle.theory.specs.Basics.{ℕ, _+_, _*_, length, getD}
-use Rattle.tabletext.specs.Reading.{digit, candidate}
-use Rattle.tabletext.specs.Reading.Laws.{digit-small}
+use Rattle.tabletext.specs.Private.Reading.{digit, candidate}
+use Rattle.tabletext.specs.Private.Reading.Laws.{digit-small}
 use Rattle.tabletext.proofs.reading.candidate.Statement.{statement}
 use Rattle.tabletext.proofs.reading.candidate.Tie as tie
 
 first : (c : tie.After-digit) → c .digit .result ≡ digit (getD (c .before .before .before .args .input .now) 7 0)
 first c = c .digit .ensures ∙ ap digit (c .before .byte-at .ensures)
 
-second : (c : tie.After-digit2)
-    → c .digit2 .result ≡ digit (getD (c .before .before .before .before .before .before .args .input .now) 8 0)
+abbrev begin : tie.After-digit2 → tie.Start
+begin c = c .before .before .before .before .before .before
+
+second : (c : tie.After-digit2) → c .digit2 .result ≡ digit (getD (begin c .args .input .now) 8 0)
 second c = c .digit2 .ensures ∙ ap digit (c .before .byte-at2 .ensures)
 
 byte-at-requires : tie.Need-byte-at-requires
@@ -41,14 +43,14 @@ digit-requires-2 c κs = search needs
 
 add-result : tie.Need-add-result
 add-result c =
-    let input = c .before .before .before .before .before .before .args .input .now in
+    let input = begin c .args .input .now in
     let tens = first (c .before .before .before) in
     omega (arith, tens, second c, digit-small (getD input 7 0), digit-small (getD input 8 0))
 
 returns-2 : tie.Need-returns-2
 unfolding candidate
 returns-2 c =
-    let input = c .before .before .before .before .before .before .args .input .now in
+    let input = begin c .args .input .now in
     rw (ne-eqb (length input) 9 (c .before .before .if1 .left))
     (ap₂ (λ (a b : ℕ). a * 10 + b) (first (c .before .before .before)) (second c))
 

@@ -6,12 +6,15 @@ use mir.Syntax.{w64}
 use mir.Val.{toZ, ofZ}
 use borrow.Author.Needs.{needs}
 use Rattle.theory.specs.Basics.{[], getD, take, pos, natAbs}
+use Rattle.theory.specs.Limits.{degreeLimit}
 use Rattle.theory.specs.Partition.{Parts}
 use Rattle.theory.specs.ClassWord.{classWord}
 use Rattle.theory.specs.ClassData.{classSize}
-use Rattle.theory.specs.Listing.{listing, column}
+use Rattle.theory.specs.Listing.{listing}
+use Rattle.theory.specs.Column.{column}
 use Rattle.words.proofs.Callers.{FrontGiven}
 use Rattle.tabletext.specs.Table.{classText, classLines}
+use Rattle.tabletext.specs.Table.Room.{listing-few}
 use Rattle.tabletext.proofs.Classes.{word-of-rank, parts-of-rank, size-fits, size-of-rank, column-of-rank}
 use Rattle.tabletext.proofs.table.class.Statement.{statement}
 use Rattle.tabletext.proofs.table.class.Tie as tie
@@ -19,42 +22,59 @@ use Rattle.tabletext.proofs.table.class.Tie as tie
 abbrev class : tie.Start → Parts
 class c = getD (listing (c .args .degree)) (c .args .rank) []
 
-word : (c : tie.After-class-at) → c .class-at .result .word ≡ classWord (class (c .before .before))
+-- the places passed: the class's word, its parts, its size and its column are asked for in this order
+abbrev begin : tie.After-class-at → tie.Start
+begin c = c .before .before
+
+abbrev worded : tie.After-parts2 → tie.After-class-at
+worded c = c .before .before
+
+abbrev parted : tie.After-size → tie.After-parts2
+parted c = c .before .before
+
+abbrev sized : tie.After-column → tie.After-size
+sized c = c .before .before
+
+word : (c : tie.After-class-at) → c .class-at .result .word ≡ classWord (class (begin c))
 word c =
-    let s = c .before .before in
-    word-of-rank (s .args .degree) (s .args .rank) (s .pre .0) (s .pre .1 .0) _ (c .class-at .ensures)
+    let s = begin c in
+    word-of-rank degreeLimit (omega arith) (s .args .degree) (s .args .rank) (s .pre .0) (s .pre .1 .0) _
+    (c .class-at .ensures)
 
 parts : (c : tie.After-parts2)
-    → FrontGiven (class (c .before .before .before .before)) (c .parts2 .result) (c .parts2 .last .1 .0)
+    → FrontGiven (class (begin (worded c))) (c .parts2 .result) (c .parts2 .last .1 .0)
 parts c =
-    let a = c .before .before in
-    let s = a .before .before in
-    parts-of-rank (s .args .degree) (s .args .rank) (s .pre .0) (s .pre .1 .0) _ (word a) _ _ (c .parts2 .ensures)
+    let a = worded c in
+    let s = begin a in
+    parts-of-rank degreeLimit (omega arith) (s .args .degree) (s .args .rank) (s .pre .0) (s .pre .1 .0) _ (word a) _ _
+    (c .parts2 .ensures)
 
 size : (c : tie.After-size)
     → toZ w64 (ofZ w64 (c .size .result .number))
-    ≡ pos (classSize (class (c .before .before .before .before .before .before)))
+    ≡ pos (classSize (class (begin (worded (parted c)))))
 size c =
-    let a = c .before .before .before .before in
-    let s = a .before .before in
-    size-of-rank (s .args .degree) (s .args .rank) (s .pre .0) (s .pre .1 .0) _ (word a) _ (c .size .ensures)
+    let a = worded (parted c) in
+    let s = begin a in
+    size-of-rank degreeLimit (omega arith) (s .args .degree) (s .args .rank) (s .pre .0) (s .pre .1 .0) _ (word a) _
+    (c .size .ensures)
 
-values : (c : tie.After-column) → let s = c .before .before .before .before .before .before .before .before in
+values : (c : tie.After-column) → let s = begin (worded (parted (sized c))) in
     FrontGiven (column (class s)) (c .column .result) (c .column .last .1 .0)
 values c =
-    let a = c .before .before .before .before .before .before in
-    let s = a .before .before in
-    column-of-rank (s .args .degree) (s .args .rank) (s .pre .0) (s .pre .1 .0) _ (word a) _ _ (c .column .ensures)
+    let a = worded (parted (sized c)) in
+    let s = begin a in
+    column-of-rank degreeLimit (omega arith) (s .args .degree) (s .args .rank) (s .pre .0) (s .pre .1 .0) _ (word a) _
+    (listing-few _ (s .pre .0)) _ _ (c .column .ensures)
 
 -- what the lines are made of is the class's own
-text : (c : tie.After-column) → let p = c .before .before .before .before in
-    let s = p .before .before .before .before in
+text : (c : tie.After-column) → let p = parted (sized c) in
+    let s = begin (worded p) in
     classText
     (take (p .parts2 .result .count) (p .parts2 .last .1 .0))
-    (natAbs (toZ w64 (ofZ w64 (c .before .before .size .result .number))))
+    (natAbs (toZ w64 (ofZ w64 (sized c .size .result .number))))
     (take (c .column .result .count) (c .column .last .1 .0)) ≡ classLines (class s)
 unfolding classLines
-text c = rw (parts (c .before .before .before .before) .front, size (c .before .before), values c .front)
+text c = rw (parts (parted (sized c)) .front, size (sized c), values c .front)
 
 class-at-requires : tie.Need-class-at-requires
 class-at-requires c κs = search needs
@@ -75,16 +95,16 @@ column-requires : tie.Need-column-requires
 column-requires c κs = search needs
 
 array-share-prefix-parts : tie.Need-array-share-prefix-parts
-array-share-prefix-parts c = parts (c .before .before .before .before .before) .inside
+array-share-prefix-parts c = parts (parted (sized (c .before))) .inside
 
 slice-aggregate-class : tie.Need-slice-aggregate-class
-slice-aggregate-class c = sym (length-take-le _ _ (parts (c .before .before .before .before .before .before) .inside))
+slice-aggregate-class c = sym (length-take-le _ _ (parts (parted (sized (c .before .before))) .inside))
 
 cast-class : tie.Need-cast-class
 cast-class c =
     let s = c .before .before .before .before .before .before in
-    let a = s .before .before .before .before .before .before in
-    let most = size-fits (a .args .degree) (a .args .rank) (a .pre .0) (a .pre .1 .0) in
+    let a = begin (worded (parted s)) in
+    let most = size-fits degreeLimit (omega arith) (a .args .degree) (a .args .rank) (a .pre .0) (a .pre .1 .0) in
     rw (size s) (tt, record { fits = omega (arith, most) })
 
 array-share-prefix-values : tie.Need-array-share-prefix-values
@@ -96,7 +116,7 @@ slice-aggregate-class-2 c = sym (length-take-le _ _ (values (c .before .before .
 class-requires : tie.Need-class-requires
 class-requires c κs =
     let v = c .before .before .before .before .before .before in
-    rw (text v) (v .before .before .before .before .before .before .before .before .pre .1 .1)
+    rw (text v) (begin (worded (parted (sized v))) .pre .1 .1)
 
 same-length : tie.Need-same-length
 same-length c = search needs

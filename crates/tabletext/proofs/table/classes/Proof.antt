@@ -6,11 +6,11 @@ use Prim.Native.Nat.{_≤_, _<_}
 use lib.Seq.{take-all}
 use borrow.Author.Needs.{needs}
 use Rattle.theory.specs.Basics.{[], _++_, suc, _-_, length, getD, take, joined}
-use Rattle.theory.specs.Basics.Joined.{joined-next, joined-front}
+use Rattle.theory.specs.Basics.Laws.{joined-next, joined-front}
 use Rattle.theory.specs.Listing.{listing}
 use Rattle.tabletext.specs.Table.{classLines}
-use Rattle.tabletext.specs.Writing.{Wrote}
-use Rattle.tabletext.specs.Writing.Laws.{wrote-none, wrote-then, wrote-room, wrote-length}
+use Rattle.tabletext.specs.Private.Writing.{Wrote}
+use Rattle.tabletext.specs.Private.Writing.Laws.{wrote-none, wrote-then, wrote-room, wrote-length}
 use Rattle.tabletext.proofs.table.classes.Statement.{statement}
 use Rattle.tabletext.proofs.table.classes.Tie as tie
 

@@ -4,8 +4,8 @@ use borrow.Author.Needs.{needs}
 use Rattle.theory.specs.Basics.{List, _++_, ℕ, _+_, length, joined}
 use Rattle.theory.specs.Listing.{listing}
 use Rattle.tabletext.specs.Table.{Text, decimal, field, classLines, table}
-use Rattle.tabletext.specs.Writing.{Wrote}
-use Rattle.tabletext.specs.Writing.Laws.{first-room, wrote-room, wrote-then}
+use Rattle.tabletext.specs.Private.Writing.{Wrote}
+use Rattle.tabletext.specs.Private.Writing.Laws.{first-room, wrote-room, wrote-then}
 use Rattle.tabletext.proofs.table.table.Statement.{statement}
 use Rattle.tabletext.proofs.table.table.Tie as tie
 
@@ -40,17 +40,25 @@ module _ (c : tie.Start) where
   room-two = first-room (degree-line ++ count-line) classes _ _ room-three
 
 -- ---- what is written so far
-two : (c : tie.After-number2)
-    → let s = c .before .before .before .before .before .before .before .before .before .before in
+-- the places passed: the count, and the two lines in front
+abbrev begin : tie.After-count → tie.Start
+begin c = c .before .before
+
+abbrev counted : tie.After-number2 → tie.After-count
+counted c = c .before .before .before .before .before .before .before .before
+
+abbrev in-front : tie.After-classes → tie.After-number2
+in-front c = c .before .before .before .before
+
+two : (c : tie.After-number2) → let s = begin (counted c) in
     Written s (degree-line s ++ count-line s) (c .number2 .result) (c .number2 .last .1 .1 .0)
 two c =
     let n = c .before .before .before .before .before in
-    wrote-then (n .number .ensures) (rw (n .before .before .before .count .ensures) at (c .number2 .ensures))
+    wrote-then (n .number .ensures) (rw (counted c .count .ensures) at (c .number2 .ensures))
 
-three : (c : tie.After-classes) → let t = c .before .before .before .before in
-    let s = t .before .before .before .before .before .before .before .before .before .before in
+three : (c : tie.After-classes) → let s = begin (counted (in-front c)) in
     Written s (degree-line s ++ count-line s ++ classes s) (c .classes .result) (c .classes .last .1 .1 .0)
-three c = wrote-then (two (c .before .before .before .before)) (c .classes .ensures)
+three c = wrote-then (two (in-front c)) (c .classes .ensures)
 
 count-requires : tie.Need-count-requires
 count-requires c κs = search needs
@@ -79,9 +87,8 @@ number-requires-2 c κs =
 classes-requires : tie.Need-classes-requires
 classes-requires c κs =
     let n = c .before .before .before in
-    let k = n .before .before .before .before .before .before .before .before in
-    let s = k .before .before in
-    (s .pre .0, (k .count .ensures, wrote-room (two n) (classes s) (room-three s)))
+    let s = begin (counted n) in
+    (s .pre .0, (counted n .count .ensures, wrote-room (two n) (classes s) (room-three s)))
 
 slice-aggregate-number-3 : tie.Need-slice-aggregate-number-3
 slice-aggregate-number-3 c = search needs
@@ -92,8 +99,8 @@ cast-number-2 c = search needs
 number-requires-3 : tie.Need-number-requires-3
 number-requires-3 c κs =
     let l = c .before .before .before .before in
-    let k = l .before .before .before .before .before .before .before .before .before .before .before .before in
-    let s = k .before .before in
+    let k = counted (in-front l) in
+    let s = begin k in
     rw (k .count .ensures) (wrote-room (three l) (end-line s) (room-all s))
 
 same-length : tie.Need-same-length
@@ -104,7 +111,7 @@ unfolding table
 returns c =
     let n = c .before .before in
     let l = n .before .before .before .before .before in
-    let k = l .before .before .before .before .before .before .before .before .before .before .before .before in
+    let k = counted (in-front l) in
     wrote-then (three l) (rw (k .count .ensures) at (n .number3 .ensures))
 
 pub table-spec : {M : Type 1} → statement M

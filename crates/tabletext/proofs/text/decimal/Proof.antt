@@ -20,11 +20,11 @@ decimal-requires c κs = search needs
 array-share-prefix-digits : tie.Need-array-share-prefix-digits
 array-share-prefix-digits c = search needs
 
-slice-aggregate-put : tie.Need-slice-aggregate-put
-slice-aggregate-put c = search needs
+slice-aggregate-write-bytes : tie.Need-slice-aggregate-write-bytes
+slice-aggregate-write-bytes c = search needs
 
-put-requires : tie.Need-put-requires
-put-requires c κs = rw (text (c .before .before)) (omega arith)
+write-bytes-requires : tie.Need-write-bytes-requires
+write-bytes-requires c κs = rw (text (c .before .before)) (omega arith)
 
 same-length : tie.Need-same-length
 same-length c = search needs
@@ -32,7 +32,7 @@ same-length c = search needs
 returns : tie.Need-returns
 returns c =
     let p = c .before .before in
-    rw (← text (p .before .before .before)) (p .put .ensures)
+    rw (← text (p .before .before .before)) (p .write-bytes .ensures)
 
 pub decimal-spec : {M : Type 1} → statement M
 decimal-spec =
@@ -40,7 +40,7 @@ decimal-spec =
     (tie.spec
     decimal-requires
     array-share-prefix-digits
-    slice-aggregate-put
-    put-requires
+    slice-aggregate-write-bytes
+    write-bytes-requires
     same-length
     returns)

@@ -4,8 +4,8 @@ use mir.Facts.{toZ-ofZ}
 use borrow.Author.Needs.{needs}
 use Rattle.theory.specs.Basics.{natAbs}
 use Rattle.tabletext.specs.Table.{decimal, minusSign, integer}
-use Rattle.tabletext.specs.Writing.{Wrote}
-use Rattle.tabletext.specs.Writing.Laws.{first-room, wrote-room, wrote-then}
+use Rattle.tabletext.specs.Private.Writing.{Wrote}
+use Rattle.tabletext.specs.Private.Writing.Laws.{first-room, wrote-room, wrote-then}
 use Rattle.tabletext.proofs.text.integer.Statement.{statement}
 use Rattle.tabletext.proofs.text.integer.Tie as tie
 
@@ -13,8 +13,11 @@ signed : (c : tie.After-minus) → let a = c .before .before .before .args in
     Wrote (minusSign (a .z)) (a .at) (a .out .now) (c .minus .result) (c .minus .last .1 .0)
 signed c = rw (toZ-ofZ (c .before .before .before .fits .z)) at (c .minus .ensures)
 
-sized : (c : tie.After-size) → c .size .result ≡ natAbs (c .before .before .before .before .before .before .args .z)
-sized c = c .size .ensures ∙ ap natAbs (toZ-ofZ (c .before .before .before .before .before .before .fits .z))
+abbrev begin : tie.After-magnitude → tie.Start
+begin c = c .before .before .before .before .before .before
+
+sized : (c : tie.After-magnitude) → c .magnitude .result ≡ natAbs (begin c .args .z)
+sized c = c .magnitude .ensures ∙ ap natAbs (toZ-ofZ (begin c .fits .z))
 
 minus-requires : tie.Need-minus-requires
 unfolding integer
@@ -23,8 +26,8 @@ minus-requires c κs =
     let z = start .args .z in
     rw (toZ-ofZ (start .fits .z)) (first-room (minusSign z) (decimal (natAbs z)) _ _ (start .pre))
 
-size-requires : tie.Need-size-requires
-size-requires c κs = search needs
+magnitude-requires : tie.Need-magnitude-requires
+magnitude-requires c κs = search needs
 
 decimal-requires : tie.Need-decimal-requires
 unfolding integer
@@ -44,4 +47,4 @@ returns c =
 
 pub integer-spec : {M : Type 1} → statement M
 integer-spec =
-    tie.close (tie.spec minus-requires size-requires decimal-requires same-length returns)
+    tie.close (tie.spec minus-requires magnitude-requires decimal-requires same-length returns)

@@ -20,7 +20,8 @@ use Rattle.theory.specs.Digits.LastOne.{ones-append}
 use Rattle.theory.specs.Digits.Low.{digits-last}
 use Rattle.theory.specs.Digits.Bits.{bitBelow, bit-rest, bit-not, bit-shift, bit-and, digits-cut}
 use Rattle.theory.specs.ShapeWord.Reading.{ones-digits}
-use Rattle.theory.specs.Hooks.{Hook, led, hookOver, hooks, shifted, hookWords}
+use Rattle.theory.specs.Hooks.{Hook, hooks, shifted, hookWord, hookWords}
+use Rattle.theory.specs.Hooks.Walk.{led, hookOver, hooks-none, hooks-one, hooks-zero}
 use Rattle.theory.specs.Hooks.Laws.{Exchange, exchanges, length-shifted}
 use Rattle.theory.specs.Basics.Laws.{map-same}
 use Rattle.theory.specs.Digits.LastOne.{ones-zeros}
@@ -40,9 +41,10 @@ bit-marks h s b below l =
 
 -- ---- the sign
 -- the k digits between and the one behind them have as many zeros as they are less the ones among them
-sign : (k j b x : ℕ) → b - suc k ≡ j → bit j x ≡ true → odd (zeros (digits k (x / 2 ^ suc j))) ≡ minusAt x (suc k) b
+sign-marked : (k j b x : ℕ) → b - suc k ≡ j → bit j x ≡ true
+    → odd (zeros (digits k (x / 2 ^ suc j))) ≡ minusAt x (suc k) b
 unfolding minusAt
-sign k j b x place one =
+sign-marked k j b x place one =
     let between : Digits = digits k (x / 2 ^ suc j) in
     let half : x / 2 ^ j / 2 ≡ x / 2 ^ suc j = rw (← add-one j) (shr-shr x j 1) in
     let last : digits (suc k) (x / 2 ^ j) ≡ between ++ (true ∷ []) = rw (half, one) at (digits-last k (x / 2 ^ j)) in
@@ -78,8 +80,8 @@ rest-led n x = sym (word-digits-rest (suc n) x) ∙ word-led n (bit n x) (digits
 abbrev asWord : ℕ → Hook Digits → Hook ℕ
 asWord n hook = record { minus = hook .minus; leaves = word n (hook .leaves) }
 
-abbrev raised : ℕ → Hook ℕ → Hook ℕ
-raised a hook = record { minus = hook .minus; leaves = a + hook .leaves }
+abbrev ledBy : ℕ → Hook ℕ → Hook ℕ
+ledBy a hook = record { minus = hook .minus; leaves = a + hook .leaves }
 
 module _ (k x : ℕ) where
   -- the hook at place b of the n lowest digits, its leading ones kept
@@ -107,7 +109,7 @@ module _ (k x : ℕ) where
       let top : x % 2 ^ suc n ≡ x % 2 ^ n = rw z at (rest-led n x) ∙ zero-add (x % 2 ^ n) in
       let leaves : word (suc n) (true ∷ b ++ false ∷ a) ≡ x % 2 ^ suc n + 2 ^ n - 2 ^ j =
       omega (arith, word-led n true (b ++ false ∷ a)) in
-      rw (leaves, sign k j n x place one, place)
+      rw (leaves, sign-marked k j n x place one, place)
 
   first-hook : (n : ℕ) → bit n x ≡ false → map (asWord (suc n)) (hookOver (take k (digits n x)) (drop k (digits n x)))
       ≡ cond (bitBelow (suc k) n x) (exchange (suc n) n ∷ []) []
@@ -128,18 +130,18 @@ module _ (k x : ℕ) where
       → map (asWord (suc n)) (map (led (bit n x)) hs) ≡ map (exchange (suc n)) bs
   behind n hs bs e =
       map-map (asWord (suc n)) (led (bit n x)) hs
-      ∙ ap (λ (f : Hook Digits → Hook ℕ). map f hs) (fun-ext led-raised)
-      ∙ sym (map-map (raised top) (asWord n) hs) ∙ ap (map (raised top)) e ∙ map-map (raised top) (exchange n) bs
-      ∙ ap (λ (f : ℕ → Hook ℕ). map f bs) (fun-ext exchange-raised)
+      ∙ ap (λ (f : Hook Digits → Hook ℕ). map f hs) (fun-ext led-by)
+      ∙ sym (map-map (ledBy top) (asWord n) hs) ∙ ap (map (ledBy top)) e ∙ map-map (ledBy top) (exchange n) bs
+      ∙ ap (λ (f : ℕ → Hook ℕ). map f bs) (fun-ext exchange-led-by)
     where
       top : ℕ
       top = cond (bit n x) (2 ^ n) 0
 
-      led-raised : (hook : Hook Digits) → asWord (suc n) (led (bit n x) hook) ≡ raised top (asWord n hook)
-      led-raised hook = rw (word-led n (bit n x) (hook .leaves))
+      led-by : (hook : Hook Digits) → asWord (suc n) (led (bit n x) hook) ≡ ledBy top (asWord n hook)
+      led-by hook = rw (word-led n (bit n x) (hook .leaves))
 
-      exchange-raised : (b : ℕ) → raised top (exchange n b) ≡ exchange (suc n) b
-      exchange-raised b =
+      exchange-led-by : (b : ℕ) → ledBy top (exchange n b) ≡ exchange (suc n) b
+      exchange-led-by b =
           let l : 2 ^ (b - suc k) ≤ 2 ^ b = pow-mono (omega arith) in
           let e : top + exchanged (x % 2 ^ n) (suc k) b ≡ exchanged (x % 2 ^ suc n) (suc k) b =
           omega (arith, rest-led n x) in
@@ -148,8 +150,8 @@ module _ (k x : ℕ) where
   -- where m has its ones at the zeros that begin a hook, the hooks are those of its places
   hooks-exchanged : (m n : ℕ) → ((b : ℕ) → b < n → bit b m ≡ begins (suc k) x b)
       → map (asWord n) (hooks (suc k) (digits n x)) ≡ map (exchange n) (places n m)
-  unfolding hooks digits places
-  hooks-exchanged m zero f = refl
+  unfolding digits places
+  hooks-exchanged m zero f = rw (hooks-none (suc k))
   hooks-exchanged m (suc n) f = rw (f n (omega arith)) (go (bit n x) refl
       (behind n (hooks (suc k) (digits n x)) (places n m) (hooks-exchanged m n (λ b l. f b (omega arith)))))
     where
@@ -163,11 +165,11 @@ module _ (k x : ℕ) where
           ≡ map (exchange (suc n)) (places n m)
           → map (asWord (suc n)) (hooks (suc k) (d ∷ digits n x))
           ≡ map (exchange (suc n)) (cond (not d && bitBelow (suc k) n x) (n ∷ places n m) (places n m))
-      go true e rest = rw e at rest
-      go false e rest =
-          map-append (asWord (suc n)) (hookOver (take k (digits n x)) (drop k (digits n x))) _
+      go true e rest = rw (hooks-one (suc k) (digits n x)) (rw e at rest)
+      go false e rest = rw (hooks-zero k (digits n x))
+          (map-append (asWord (suc n)) (hookOver (take k (digits n x)) (drop k (digits n x))) _
           ∙ ap₂ (λ (hs gs : List (Hook ℕ)). hs ++ gs) (first-hook n e) (rw e at rest)
-          ∙ front (bitBelow (suc k) n x)
+          ∙ front (bitBelow (suc k) n x))
 
 -- ---- leading ones shifted out
 word-more : (n : ℕ) (ds : Digits) → length ds ≤ n → word (suc n) ds ≡ word n ds * 2
@@ -247,5 +249,5 @@ hooks-marked (suc k) s long small =
     out hook = record { minus = hook .minus; leaves = onesOut (hook .leaves) }
 
     same : (hook : Hook Digits) → Exchange (suc k) (digits width s) hook
-        → record { minus = hook .minus; leaves = word width (shifted (hook .leaves)) } ≡ out (asWord width hook)
+        → hookWord hook ≡ out (asWord width hook)
     same hook e = rw (ones-out (hook .leaves) (e .same-length ∙ length-digits width s))

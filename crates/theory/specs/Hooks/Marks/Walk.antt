@@ -10,7 +10,7 @@ use native.Mathlib.Omega.{arith}
 use borrow.Author.Tests.{leb-true}
 use lib.Count.{leadingZeros, leading-top}
 use lib.Pow.{pow-pos, pow-mono, high, low}
-use Rattle.theory.specs.Basics.{Bool, true, false, not, cond, List, [], _∷_, length}
+use Rattle.theory.specs.Basics.{Bool, true, false, not, cond, List, [], _∷_}
 use Rattle.theory.specs.Basics.{ℕ, zero, suc, _+_, _-_, _*_, _%_, _^_, _≤?_, ℤ, sum}
 use Rattle.theory.specs.Basics.Laws.{both, Each, each-same, each-both, each-mapped, sum-map}
 use Rattle.theory.specs.Digits.{bit, width}
@@ -79,16 +79,6 @@ highest W x p h = go (leadingZeros (suc W) x) (leading-top (suc W) x p (omega ar
           takes = rw one lo;
           rest = rw (one, place) (rw whole at (places-top W j (x - 2 ^ j) below (omega arith)));
         }
-
--- there are no more than there are digits
-pub places-few : (n x : ℕ) → length (places n x) ≤ n
-unfolding places
-places-few zero x = omega arith
-places-few (suc n) x = go (bit n x) (places-few n x)
-  where
-    go : (d : Bool) → length (places n x) ≤ n → length (cond d (n ∷ places n x) (places n x)) ≤ suc n
-    go true l = omega arith
-    go false l = omega arith
 
 -- ---- the places of the marks
 pub record Begun (h s b : ℕ) : Type 0 where

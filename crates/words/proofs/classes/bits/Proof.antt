@@ -9,7 +9,7 @@ use Rattle.theory.specs.Partition.Laws.{front}
 use Rattle.theory.specs.Digits.{word}
 use Rattle.theory.specs.Digits.Laws.{one-shifted, word-below, word-none}
 use Rattle.theory.specs.ClassWord.{classDigits, classWord}
-use Rattle.theory.specs.ClassWord.Front.{word-front}
+use Rattle.theory.specs.ClassWord.Laws.{class-word-front}
 use Rattle.words.proofs.PartLists.{next-left, none-left}
 use Rattle.words.proofs.classes.bits.Statement.{statement}
 use Rattle.words.proofs.classes.bits.Tie as tie
@@ -22,17 +22,17 @@ Inv-loop parts left₀ bits₀ i₀ left bits i =
 abbrev μ-loop : tie.MeasureT-loop
 μ-loop parts left₀ bits₀ i₀ left bits i = length parts - i
 
--- a turn: the part p at place i, with `left` digits to fill
-record Turn (ps : Parts) (i left p : ℕ) : Type 0 where
+-- the part p at place i is added, with `left` digits to fill
+record PartAdded (ps : Parts) (i left p : ℕ) : Type 0 where
   fits : p ≤ left
   partition : isPartition (drop (i + 1) ps) ≡ true
   room : degree (drop (i + 1) ps) ≤ left - p
   writes : word left (classDigits (drop i ps))
       ≡ 1 * 2 ^ (left - p) % 2 ^ 32 + word (left - p) (classDigits (drop (i + 1) ps))
 
-turn : (ps : Parts) (i left : ℕ) → i < length ps → isPartition (drop i ps) ≡ true → degree (drop i ps) ≤ left
-    → left ≤ 31 → Turn ps i left (getD ps i 0)
-turn ps i left h partition room short =
+part-added : (ps : Parts) (i left : ℕ) → i < length ps → isPartition (drop i ps) ≡ true → degree (drop i ps) ≤ left
+    → left ≤ 31 → PartAdded ps i left (getD ps i 0)
+part-added ps i left h partition room short =
     let e = next-left ps i h in
     let f = front (getD ps i 0) (drop (i + 1) ps) (rw e at partition) in
     let d = ap degree e in
@@ -41,19 +41,19 @@ turn ps i left h partition room short =
       partition = f .rest;
       room = omega arith;
       writes = rw (one-shifted 32 (left - getD ps i 0) (omega arith), e)
-          (word-front left (getD ps i 0) (drop (i + 1) ps) (f .positive) (omega arith));
+          (class-word-front left (getD ps i 0) (drop (i + 1) ps) (f .positive) (omega arith));
     }
 
 abbrev Step : tie.In-loop Inv-loop μ-loop → Type 0
 Step c =
     let ps : Parts = c .before .before .args .parts .now in
     let l = c .before .loop in
-    Turn ps (l .i) (l .left) (getD ps (l .i) 0)
+    PartAdded ps (l .i) (l .left) (getD ps (l .i) 0)
 
 step : (c : tie.In-loop Inv-loop μ-loop) → Step c
 step c =
     let v = c .before .loop .inv in
-    turn _ _ _ (c .loop-test .taken) (v .1) (v .2) (v .3)
+    part-added _ _ _ (c .loop-test .taken) (v .1) (v .2) (v .3)
 
 loop-holds : tie.Need-loop-holds Inv-loop μ-loop
 loop-holds c = search needs

@@ -3,9 +3,11 @@ use mathlib.Core.Path.{ap, _∙_}
 use borrow.Author.Needs.{needs}
 use Rattle.theory.specs.Basics.{ℕ, pos}
 use Rattle.theory.specs.ClassWord.{classOf}
-use Rattle.theory.specs.Refusals.{degreeLimit, classRows}
+use Rattle.theory.specs.Refusals.{classChecks}
+use Rattle.theory.specs.Limits.{degreeLimit}
 use Rattle.words.specs.Calls.{classDegree}
-use Rattle.words.proofs.Answers.{passed, number-handed, number-given}
+use Rattle.words.proofs.Answers.{number-given}
+use Rattle.words.proofs.Measures.{measures, number-handed}
 use Rattle.words.proofs.classes.degree.Statement.{statement}
 use Rattle.words.proofs.classes.degree.Tie as tie
 
@@ -19,8 +21,7 @@ returns : tie.Need-returns
 unfolding classDegree
 returns c =
     let a = c .before .before .before in
-    number-handed (classRows degreeLimit (a .before .args .word)) _ _ _ (a .read .ensures) (c .before .if1 .taken)
-    (c .refused .ensures)
+    number-handed _ _ _ (a .read .ensures) _ (c .before .if1 .taken) (c .refused .ensures)
 
 cast-given : tie.Need-cast-given
 cast-given c = search needs
@@ -33,9 +34,9 @@ unfolding classDegree
 returns-2 c =
     let a = c .before .before .before .before in
     let w : ℕ = a .before .args .word in
-    let p = passed _ (classOf w) _ (a .read .ensures) (c .before .before .if1 .left) in
+    let p = measures _ (classOf w) _ (a .read .ensures) (c .before .before .if1 .left) in
     c .given .ensures
-    ∙ number-given (classRows degreeLimit w) _ _ (p .none) (ap pos (p .degree))
+    ∙ number-given (classChecks degreeLimit w) _ _ (p .none) (ap pos (p .degree))
 
 pub degree-spec : {M : Type 1} → statement M
 degree-spec =

@@ -52,7 +52,7 @@ loop-holds c =
     let w : ℕ = c .args .word in (
       record { left = omega arith; small = omega arith; bound = unfold factorial in omega arith },
       omega arith,
-      omega (arith, divisor-read (classOf w) (c .pre .1)),
+      omega (arith, divisor-read (classOf w) (c .pre .good .partition)),
     )
 
 sub-part : tie.Need-sub-part Inv-loop μ-loop

@@ -1,65 +1,56 @@
--- `words::classes::parts` meets its contract: it hands on what the reader found, or writes the parts that were counted.
-use native.Mathlib.Omega.{arith}
+-- `words::classes::parts` meets its contract: refused with what was measured, or the parts go to a column with room.
 use mathlib.Core.Path.{refl}
 use borrow.Author.Needs.{needs}
 use Rattle.theory.specs.Basics.{ℕ}
 use Rattle.theory.specs.Partition.{Parts}
 use Rattle.theory.specs.ClassWord.{classOf}
-use Rattle.theory.specs.Refusals.{degreeLimit, classRows}
+use Rattle.theory.specs.Limits.{degreeLimit}
+use Rattle.theory.specs.Refusals.{classChecks}
+use Rattle.theory.specs.Refusals.Laws.{within-class}
 use Rattle.words.specs.Calls.{classPartsInto}
-use Rattle.words.proofs.Answers.{PassedClass, passed-class, refused-is}
-use Rattle.words.proofs.Answers.{column-refused, column-short, column-filled}
+use Rattle.words.proofs.Measures.{parts-refused, parts-pass, parts-given}
 use Rattle.words.proofs.classes.parts.Statement.{statement}
 use Rattle.words.proofs.classes.parts.Tie as tie
 
-abbrev w : tie.After-read → ℕ
-w c = c .before .before .args .word
+abbrev w : tie.After-count-within → ℕ
+w c = c .before .before .before .args .word
 
-abbrev column : tie.After-read → Parts
-column c = c .before .before .args .column .now
-
-passes : (c : tie.Else1) → let a = c .before .before in PassedClass (w a) (a .read .result)
-passes c = passed-class _ _ (omega arith) (c .before .before .read .ensures) (c .if1 .left)
+abbrev column : tie.After-count-within → Parts
+column c = c .before .before .before .args .column .now
 
 read-requires : tie.Need-read-requires
 read-requires c κs = search needs
+
+count-within-requires : tie.Need-count-within-requires
+count-within-requires c κs = search needs
 
 returns : tie.Need-returns
 unfolding classPartsInto
 returns c =
     let a = c .before .before in
-    column-refused (classRows degreeLimit (w a)) (classOf (w a)) (column a) _ (refused-is _ _ _ (a .read .ensures))
-    (c .if1 .taken)
+    parts-refused (classChecks degreeLimit (w a)) refl (classOf (w a)) (column a) _ (a .before .read .ensures) _
+    (a .count-within .ensures) (c .if1 .taken)
 
-cast-count : tie.Need-cast-count
-cast-count c = search needs
-
-returns-2 : tie.Need-returns-2
-unfolding classPartsInto
-returns-2 c =
-    let e = c .before .before in
-    let a = e .before .before in
-    let p = passes e .found in
-    column-short (classRows degreeLimit (w a)) (classOf (w a)) (column a) refl (p .none) (omega arith)
-
-put-requires : tie.Need-put-requires
-put-requires c κs =
-    let p = passes (c .before .before .before) in
-    (p .below, omega arith)
+write-parts-requires : tie.Need-write-parts-requires
+write-parts-requires c κs =
+    let a = c .before .before .before in
+    let (none, room) =
+    parts-pass (classChecks degreeLimit (w a)) refl (classOf (w a)) (column a) _ (a .before .read .ensures) _
+    (a .count-within .ensures) (c .before .if1 .left) in
+    (within-class degreeLimit (w a) none .good .below, room)
 
 same-length : tie.Need-same-length
 same-length c = search needs
 
-returns-3 : tie.Need-returns-3
+returns-2 : tie.Need-returns-2
 unfolding classPartsInto
-returns-3 c =
-    let e = c .before .before .before .before .before .before in
-    let a = e .before .before in
-    let p = passes e .found in
-    column-filled (classRows degreeLimit (w a)) (classOf (w a)) (column a) refl (p .none) _ _ (omega arith) (p .count)
-    (c .before .before .put .ensures)
+returns-2 c =
+    let wrote = c .before .before in
+    let a = wrote .before .before .before .before in
+    parts-given (classChecks degreeLimit (w a)) refl (classOf (w a)) (column a) _ (a .before .read .ensures) _
+    (a .count-within .ensures) (wrote .before .before .if1 .left) _ (wrote .write-parts .ensures)
 
 pub parts-spec : {M : Type 1} → statement M
 parts-spec =
     tie.close
-    (tie.spec read-requires returns cast-count returns-2 put-requires same-length returns-3)
+    (tie.spec read-requires count-within-requires returns write-parts-requires same-length returns-2)

@@ -55,7 +55,7 @@ loop-holds : tie.Need-loop-holds Inv-loop μ-loop
 loop-holds c =
     let w : ℕ = c .args .word in (
       record { left = omega arith; small = omega arith; bound = unfold factorial in omega arith },
-      omega (arith, period-read (classOf w) (c .pre .1)),
+      omega (arith, period-read (classOf w) (c .pre .good .partition)),
     )
 
 sub-part : tie.Need-sub-part Inv-loop μ-loop

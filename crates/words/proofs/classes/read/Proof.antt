@@ -12,10 +12,11 @@ use Rattle.theory.specs.Digits.{digits}
 use Rattle.theory.specs.Digits.Laws.{length-digits}
 use Rattle.theory.specs.ClassWord.{classOf, goodClass}
 use Rattle.theory.specs.ClassWord.Laws.{degree-parts, good-of-below, bad-above}
-use Rattle.theory.specs.Refusals.{degreeLimit, classRows}
-use Rattle.words.specs.Reading.{found, seen}
-use Rattle.words.proofs.Answers.{seen-refused, seen-given}
-use Rattle.words.proofs.ClassLoops.{partsLeft, Turn, turn, no-parts-left}
+use Rattle.theory.specs.Refusals.{classChecks}
+use Rattle.theory.specs.Limits.{degreeLimit}
+use Rattle.words.specs.Private.Reading.{measure, measured}
+use Rattle.words.proofs.Measures.{measured-refused, measured-given}
+use Rattle.words.proofs.ClassLoops.{partsLeft, NextPart, next-part, no-parts-left}
 use Rattle.words.proofs.classes.read.Statement.{statement}
 use Rattle.words.proofs.classes.read.Tie as tie
 
@@ -28,11 +29,11 @@ Inv-loop word rest₀ at₀ last₀ count₀ rest at last count =
 abbrev μ-loop : tie.MeasureT-loop
 μ-loop word rest₀ at₀ last₀ count₀ rest at last count = rest
 
-step : (c : tie.In-loop Inv-loop μ-loop) → Turn (c .before .loop .at) (c .before .loop .rest)
-step c = turn _ _ (c .loop-test .taken) (c .before .loop .inv .1)
+step : (c : tie.In-loop Inv-loop μ-loop) → NextPart (c .before .loop .at) (c .before .loop .rest)
+step c = next-part _ _ (c .loop-test .taken) (c .before .loop .inv .1)
 
-refused : (w : ℕ) → goodClass w ≡ false → found 3 0 0 ≡ seen (classRows degreeLimit w) (classOf w)
-refused w bad = seen-refused (classRows degreeLimit w) (classOf w) 3 (rw bad) (λ z. omega arith)
+refused : (w : ℕ) → goodClass w ≡ false → measure 3 0 0 ≡ measured (classChecks degreeLimit w) (classOf w)
+refused w bad = measured-refused (classChecks degreeLimit w) (classOf w) 3 (rw bad) (λ z. omega arith)
 
 -- the parts of the rest: when another is read, and when none is left
 abbrev left : tie.At-loop Inv-loop μ-loop → Parts
@@ -41,16 +42,19 @@ left c = partsLeft (c .loop .at) (c .loop .rest)
 none : (c : tie.After-loop Inv-loop μ-loop) → left (c .before) ≡ []
 none c = no-parts-left (c .before .loop .at) (c .before .loop .rest) (c .loop-test .left)
 
-good : (c : tie.After-loop Inv-loop μ-loop) → goodClass (c .before .before .before .args .word) ≡ true
+abbrev class : tie.After-loop Inv-loop μ-loop → ℕ
+class c = c .before .before .before .args .word
+
+good : (c : tie.After-loop Inv-loop μ-loop) → goodClass (class c) ≡ true
 good c =
     let l = c .before .loop in
-    good-of-below (c .before .before .before .args .word) (omega arith) ∙ l .inv .4
+    good-of-below (class c) (omega arith) ∙ l .inv .4
     ∙ fall (l .last) (left (c .before)) (l .inv .2) (omega (arith, ap first (none c))) ∙ ap isPartition (none c)
 
 returns : tie.Need-returns Inv-loop μ-loop
 returns c =
     let w : ℕ = c .before .args .word in
-    refused w (bad-above w (c .if1 .taken) (omega arith))
+    refused w (bad-above w (c .if1 .taken))
 
 loop-holds : tie.Need-loop-holds Inv-loop μ-loop
 loop-holds c =
@@ -103,17 +107,17 @@ last-one-requires c κs = search needs
 
 returns-3 : tie.Need-returns-3 Inv-loop μ-loop
 returns-3 c =
-    let w : ℕ = c .before .before .before .before .before .args .word in
+    let w : ℕ = class (c .before .before) in
     let large = lt-ltb degreeLimit (degree (classOf w)) (omega (arith, c .before .last-one .ensures)) in
-    seen-refused (classRows degreeLimit w) (classOf w) 4 (rw (good (c .before .before), large)) (λ z. omega arith)
+    measured-refused (classChecks degreeLimit w) (classOf w) 4 (rw (good (c .before .before), large)) (λ z. omega arith)
 
 returns-4 : tie.Need-returns-4 Inv-loop μ-loop
 returns-4 c =
-    let w : ℕ = c .before .before .before .before .before .args .word in
+    let w : ℕ = class (c .before .before) in
     let n = c .before .last-one .ensures in
     let within = le-ltb degreeLimit (degree (classOf w)) (omega (arith, n)) in
     let counted = ap length (none (c .before .before)) in
-    seen-given (classRows degreeLimit w) (classOf w) _ _ (rw (good (c .before .before), within)) n (omega arith)
+    measured-given (classChecks degreeLimit w) (classOf w) _ _ (rw (good (c .before .before), within)) n (omega arith)
 
 pub read-spec : {M : Type 1} → statement M
 read-spec =

@@ -9,9 +9,11 @@ use Rattle.theory.specs.ClassWord.{classOf}
 use Rattle.theory.specs.ClassData.{classSize}
 use Rattle.theory.specs.ClassData.Laws.{divisor-positive}
 use Rattle.theory.specs.Bounds.{factorial}
-use Rattle.theory.specs.Refusals.{degreeLimit, classRows}
+use Rattle.theory.specs.Refusals.{classChecks}
+use Rattle.theory.specs.Limits.{degreeLimit}
 use Rattle.words.specs.Calls.{sizeOfClass}
-use Rattle.words.proofs.Answers.{PassedClass, passed-class, number-handed, number-given}
+use Rattle.words.proofs.Answers.{number-given}
+use Rattle.words.proofs.Measures.{ClassMeasures, class-measures, class-fits, number-handed}
 use Rattle.words.proofs.Factorials.{factorials, factorial-at, factorial-fits}
 use Rattle.words.proofs.classes.size.Statement.{statement}
 use Rattle.words.proofs.classes.size.Tie as tie
@@ -26,11 +28,13 @@ returns : tie.Need-returns
 unfolding sizeOfClass
 returns c =
     let a = c .before .before .before in
-    number-handed (classRows degreeLimit (a .before .args .word)) _ _ _ (a .read .ensures) (c .before .if1 .taken)
-    (c .refused .ensures)
+    number-handed _ _ _ (a .read .ensures) _ (c .before .if1 .taken) (c .refused .ensures)
 
-passes : (c : tie.Else1) → PassedClass (c .before .before .before .args .word) (c .before .before .read .result)
-passes c = passed-class _ _ (omega arith) (c .before .before .read .ensures) (c .if1 .left)
+abbrev word : tie.Else1 → ℕ
+word c = c .before .before .before .args .word
+
+passes : (c : tie.Else1) → ClassMeasures degreeLimit (word c) (c .before .before .read .result)
+passes c = class-measures _ _ _ (c .before .before .read .ensures) (c .if1 .left)
 
 cast-degree : tie.Need-cast-degree
 cast-degree c = search needs
@@ -43,32 +47,32 @@ array-read-given c = omega (arith, passes (c .before))
 
 divisor-requires : tie.Need-divisor-requires
 divisor-requires c κs =
-    let p = passes (c .before) in
-    (p .below, p .partition, p .small)
+    class-fits (omega arith) (passes (c .before) .within)
 
 div-given : tie.Need-div-given
 div-given c =
     let e = c .before .before in
-    let w : ℕ = e .before .before .before .args .word in
-    omega (arith, c .divisor .ensures, divisor-positive (classOf w) (passes e .partition))
+    let w : ℕ = word e in
+    omega (arith, c .divisor .ensures, divisor-positive (classOf w) (passes e .within .good .partition))
 
 given-requires : tie.Need-given-requires
 given-requires c κs =
     let p = passes (c .before .before) in
     let d : ℕ = c .before .before .before .before .read .result .degree in
     let small : d ≤ degreeLimit = omega arith in
-    omega (arith, div-le-self (getD factorials d 0) (c .divisor .result), factorial-at d small, factorial-fits d small)
+    let fits = factorial-fits d (omega arith) in
+    omega (arith, div-le-self (getD factorials d 0) (c .divisor .result), factorial-at d small)
 
 returns-2 : tie.Need-returns-2
 unfolding sizeOfClass classSize
 returns-2 c =
     let e = c .before .before .before in
-    let w : ℕ = e .before .before .before .args .word in
+    let w : ℕ = word e in
     let p = passes e in
     let d : ℕ = e .before .before .read .result .degree in
     let table = factorial-at d (omega arith) ∙ ap factorial (p .found .degree) in
     let divided = ap₂ _/_ table (c .before .divisor .ensures) in
-    c .given .ensures ∙ number-given (classRows degreeLimit w) _ _ (p .found .none) (ap pos divided)
+    c .given .ensures ∙ number-given (classChecks degreeLimit w) _ _ (p .found .none) (ap pos divided)
 
 pub size-spec : {M : Type 1} → statement M
 size-spec =

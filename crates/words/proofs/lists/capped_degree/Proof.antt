@@ -5,12 +5,13 @@ use Prim.Native.Nat.{_≤_}
 use borrow.Author.Needs.{needs}
 use Rattle.theory.specs.Basics.{_+_, _-_, length, getD, drop}
 use Rattle.theory.specs.Partition.{degree}
+use Rattle.theory.specs.Limits.{degreeLimit}
 use Rattle.words.proofs.PartLists.{degree-left, none-left}
 use Rattle.words.proofs.lists.capped_degree.Statement.{statement}
 use Rattle.words.proofs.lists.capped_degree.Tie as tie
 
 abbrev Inv-loop : tie.InvT-loop
-Inv-loop parts sum₀ i₀ sum i = (i ≤ length parts) × (degree parts ≡ sum + degree (drop i parts)) × (sum ≤ 16)
+Inv-loop parts sum₀ i₀ sum i = (i ≤ length parts) × (degree parts ≡ sum + degree (drop i parts)) × (sum ≤ degreeLimit)
 
 abbrev μ-loop : tie.MeasureT-loop
 μ-loop parts sum₀ i₀ sum i = length parts - i

@@ -1,12 +1,12 @@
 -- `words::lists::refusal` meets its contract: whether the list is a partition, and then its degree as far as the limit,
--- is what the two rows ask.
+-- is what the two checks ask.
 use native.Mathlib.Omega.{arith}
 use mathlib.Core.Path.{_≡_, sym, _∙_}
 use borrow.Author.Needs.{needs}
 use borrow.Author.Tests.{lt-ltb, le-ltb, not-false}
 use Rattle.theory.specs.Basics.{true}
 use Rattle.theory.specs.Partition.{Parts, isPartition, degree}
-use Rattle.theory.specs.Refusals.{degreeLimit}
+use Rattle.theory.specs.Limits.{degreeLimit}
 use Rattle.words.proofs.lists.refusal.Statement.{statement}
 use Rattle.words.proofs.lists.refusal.Tie as tie
 

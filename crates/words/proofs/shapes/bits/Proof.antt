@@ -11,31 +11,31 @@ use Rattle.theory.specs.Partition.Laws.{front}
 use Rattle.theory.specs.Digits.{word}
 use Rattle.theory.specs.Digits.Laws.{one-shifted, word-below, word-none}
 use Rattle.theory.specs.ShapeWord.{shapeDigits, shapeWord}
-use Rattle.theory.specs.ShapeWord.Words.{Fits, small-fits}
-use Rattle.theory.specs.ShapeWord.Reading.{word-front}
+use Rattle.theory.specs.ShapeWord.Words.{HasRoom, small-has-room}
+use Rattle.theory.specs.ShapeWord.Reading.{shape-word-front}
 use Rattle.words.proofs.PartLists.{first-left, next-left, none-left}
 use Rattle.words.proofs.shapes.bits.Statement.{statement}
 use Rattle.words.proofs.shapes.bits.Tie as tie
 
 abbrev Inv-loop : tie.InvT-loop
 Inv-loop parts left₀ bits₀ i₀ left bits i =
-    Fits left (drop i parts) × (left ≤ 31) × (shapeWord parts ≡ bits + word left (shapeDigits (drop i parts)))
+    HasRoom left (drop i parts) × (left ≤ 31) × (shapeWord parts ≡ bits + word left (shapeDigits (drop i parts)))
 
 abbrev μ-loop : tie.MeasureT-loop
 μ-loop parts left₀ bits₀ i₀ left bits i = length parts - i
 
--- A turn of the loop: the row r of ps before the rows rs, of which q is the first, goes to the first of `left` digits
--- as a zero and the ones between two masks.
-record Turn (left r q : ℕ) (ps rs : Parts) (top next : ℕ) : Type 0 where
+-- The row r of ps before the rows rs, of which q is the first, is added to the first of `left` digits as a zero and the
+-- ones between two masks.
+record RowAdded (left r q : ℕ) (ps rs : Parts) (top next : ℕ) : Type 0 where
   falls : q ≤ r
   more : r - q < left
   masks : next ≤ top
-  fits : Fits (left - 1 - (r - q)) rs
+  fits : HasRoom (left - 1 - (r - q)) rs
   wrote : word left (shapeDigits ps) ≡ (top - next) + word (left - 1 - (r - q)) (shapeDigits rs)
 
-turn : (left r q : ℕ) (ps rs : Parts) → Fits left ps → left ≤ 31 → ps ≡ r ∷ rs → first rs ≡ q
-    → Turn left r q ps rs (1 * 2 ^ (left - 1) % 2 ^ 32) (1 * 2 ^ (left - 1 - (r - q)) % 2 ^ 32)
-turn left r q ps rs f l e eq =
+row-added : (left r q : ℕ) (ps rs : Parts) → HasRoom left ps → left ≤ 31 → ps ≡ r ∷ rs → first rs ≡ q
+    → RowAdded left r q ps rs (1 * 2 ^ (left - 1) % 2 ^ 32) (1 * 2 ^ (left - 1 - (r - q)) % 2 ^ 32)
+row-added left r q ps rs f l e eq =
     let p = front r rs (rw e at (f .partition)) in
     let room : suc (length rs) + r ≤ left = rw e at (f .room) in
     let falls : q ≤ r = rw eq at (p .falls) in
@@ -45,27 +45,30 @@ turn left r q ps rs f l e eq =
       more = omega arith;
       masks = pow-mono (omega arith);
       fits = record { partition = p .rest; room = omega arith };
-      wrote = rw (e, ← eq) (word-front left r rs (p .falls) room);
+      wrote = rw (e, ← eq) (shape-word-front left r rs (p .falls) room);
     })
 
+abbrev parts : tie.After-part-at2 Inv-loop μ-loop → Parts
+parts c = c .before .before .before .before .before .args .parts .now
+
 step : (c : tie.After-part-at2 Inv-loop μ-loop)
-    → let ps = c .before .before .before .before .before .args .parts .now in
+    → let ps = parts c in
     let i = c .before .before .before .loop .i in
     let l = c .before .before .before .loop .left in
     let r = c .before .part-at .result in
     let q = c .part-at2 .result in
-    Turn l r q (drop i ps) (drop (i + 1) ps) (1 * 2 ^ (l - 1) % 2 ^ 32) (1 * 2 ^ (l - 1 - (r - q)) % 2 ^ 32)
+    RowAdded l r q (drop i ps) (drop (i + 1) ps) (1 * 2 ^ (l - 1) % 2 ^ 32) (1 * 2 ^ (l - 1 - (r - q)) % 2 ^ 32)
 step c =
-    let ps = c .before .before .before .before .before .args .parts .now in
+    let ps = parts c in
     let i = c .before .before .before .loop .i in
     let v = c .before .before .before .loop .inv in
     let e = rw (← c .before .part-at .ensures) at (next-left ps i (c .before .before .loop-test .taken)) in
-    turn _ _ _ (drop i ps) (drop (i + 1) ps) (v .0) (v .1) e (first-left ps (i + 1) ∙ sym (c .part-at2 .ensures))
+    row-added _ _ _ (drop i ps) (drop (i + 1) ps) (v .0) (v .1) e (first-left ps (i + 1) ∙ sym (c .part-at2 .ensures))
 
 loop-holds : tie.Need-loop-holds Inv-loop μ-loop
 loop-holds c =
     let p = c .before .pre in
-    (small-fits (c .before .args .parts .now) (p .0) (omega arith), omega arith, omega arith)
+    (small-has-room (c .before .args .parts .now) (p .partition) (omega arith), omega arith, omega arith)
 
 part-at-requires : tie.Need-part-at-requires Inv-loop μ-loop
 part-at-requires c κs = search needs
@@ -95,8 +98,7 @@ sub-bits : tie.Need-sub-bits Inv-loop μ-loop
 sub-bits c = omega (arith, step c)
 
 add-bits : tie.Need-add-bits Inv-loop μ-loop
-add-bits c =
-    omega (arith, step c, word-below 31 (shapeDigits (c .before .before .before .before .before .args .parts .now)))
+add-bits c = omega (arith, step c, word-below 31 (shapeDigits (parts c)))
 
 add-i : tie.Need-add-i Inv-loop μ-loop
 add-i c = search needs

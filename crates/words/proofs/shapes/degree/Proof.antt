@@ -1,19 +1,23 @@
 -- `words::shapes::degree` meets its contract: it gives the degree that the reader found.
 use mathlib.Core.Path.{_∙_, ap}
 use borrow.Author.Needs.{needs}
-use Rattle.theory.specs.Basics.{pos}
+use Rattle.theory.specs.Basics.{ℕ, pos}
 use Rattle.theory.specs.Partition.{degree}
 use Rattle.theory.specs.ShapeWord.{shapeOf}
-use Rattle.theory.specs.Refusals.{degreeLimit, shapeRows}
+use Rattle.theory.specs.Refusals.{shapeChecks}
+use Rattle.theory.specs.Limits.{degreeLimit}
 use Rattle.words.specs.Calls.{shapeDegree}
-use Rattle.words.proofs.Answers.{Passed, passed, number-handed, number-given}
+use Rattle.words.proofs.Answers.{number-given}
+use Rattle.words.proofs.Measures.{Measures, measures, number-handed}
 use Rattle.words.proofs.shapes.degree.Statement.{statement}
 use Rattle.words.proofs.shapes.degree.Tie as tie
 
+abbrev word : tie.Else1 → ℕ
+word c = c .before .before .before .args .word
+
 pass : (c : tie.Else1)
-    → let w = c .before .before .before .args .word in
-    Passed (shapeRows degreeLimit w) (shapeOf w) (c .before .before .read .result)
-pass c = passed _ _ _ (c .before .before .read .ensures) (c .if1 .left)
+    → Measures (shapeChecks degreeLimit (word c)) (shapeOf (word c)) (c .before .before .read .result)
+pass c = measures _ _ _ (c .before .before .read .ensures) (c .if1 .left)
 
 read-requires : tie.Need-read-requires
 read-requires c κs = search needs
@@ -25,8 +29,7 @@ returns : tie.Need-returns
 unfolding shapeDegree
 returns c =
     let a = c .before .before .before in
-    number-handed (shapeRows degreeLimit (a .before .args .word)) _ _ _ (a .read .ensures) (c .before .if1 .taken)
-    (c .refused .ensures)
+    number-handed _ _ _ (a .read .ensures) _ (c .before .if1 .taken) (c .refused .ensures)
 
 cast-given : tie.Need-cast-given
 cast-given c = search needs
@@ -37,10 +40,10 @@ given-requires c κs = search needs
 returns-2 : tie.Need-returns-2
 unfolding shapeDegree
 returns-2 c =
-    let w = c .before .before .before .before .before .args .word in
+    let w = word (c .before .before) in
     let p = pass (c .before .before) in
     c .given .ensures
-    ∙ number-given (shapeRows degreeLimit w) (pos (degree (shapeOf w))) _ (p .none) (ap pos (p .degree))
+    ∙ number-given (shapeChecks degreeLimit w) (pos (degree (shapeOf w))) _ (p .none) (ap pos (p .degree))
 
 pub degree-spec : {M : Type 1} → statement M
 degree-spec = tie.close (tie.spec read-requires refused-requires returns cast-given given-requires returns-2)

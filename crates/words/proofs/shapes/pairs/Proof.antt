@@ -9,7 +9,7 @@ use Rattle.theory.specs.Partition.{degree}
 use Rattle.theory.specs.Digits.{digits}
 use Rattle.theory.specs.ShapeWord.{shapeOf}
 use Rattle.theory.specs.ShapeWord.Counts.{pairsAfter, degree-after}
-use Rattle.words.proofs.ClassLoops.{partsLeft, Turn, turn, no-parts-left}
+use Rattle.words.proofs.ClassLoops.{partsLeft, NextPart, next-part, no-parts-left}
 use Rattle.words.proofs.shapes.pairs.Statement.{statement}
 use Rattle.words.proofs.shapes.pairs.Tie as tie
 
@@ -21,8 +21,8 @@ Inv-loop word rest₀ at₀ zeros₀ pairs₀ rest at zeros pairs =
 abbrev μ-loop : tie.MeasureT-loop
 μ-loop word rest₀ at₀ zeros₀ pairs₀ rest at zeros pairs = rest
 
-step : (c : tie.In-loop Inv-loop μ-loop) → Turn (c .before .loop .at) (c .before .loop .rest)
-step c = turn _ _ (c .loop-test .taken) (c .before .loop .inv .1)
+step : (c : tie.In-loop Inv-loop μ-loop) → NextPart (c .before .loop .at) (c .before .loop .rest)
+step c = next-part _ _ (c .loop-test .taken) (c .before .loop .inv .1)
 
 loop-holds : tie.Need-loop-holds Inv-loop μ-loop
 loop-holds c = omega (arith, degree-after (digits 31 (c .args .word)))

@@ -1,0 +1,33 @@
+-- E1 to E13, all by computation: one theorem.
+use mathlib.Core.Path.{refl}
+use Rattle.theory.specs.Character.{character}
+use Rattle.theory.specs.Digits.{digits, word}
+use Rattle.theory.specs.Hooks.{hooks, hookWords}
+use Rattle.theory.specs.Bounds.{factorial, S}
+use Rattle.characters.specs.Line.{hookLines}
+use Rattle.characters.specs.Sound.{soundLine, soundLines, sound}
+use Rattle.characters.specs.Opening.{opening}
+use Rattle.characters.specs.Step.{nextLines, nextSlip, step}
+use Rattle.characters.specs.Examples.{Examples}
+
+pub examples : Examples
+unfolding character digits word hooks hookWords hookLines factorial S soundLine soundLines sound opening nextLines
+    nextSlip step
+examples = record {
+  E1 = refl;
+  E2 = refl;
+  E3 = refl;
+  E4 = refl;
+  E5 = refl;
+  E6 = refl;
+  E7 = refl;
+  E8 = refl;
+  E9 = refl;
+  E10 = refl;
+  E11 = refl;
+  E11-3 = refl;
+  E11-3-2 = refl;
+  E12-2 = refl;
+  E12-2-3 = refl;
+  E13 = refl;
+}

@@ -1,0 +1,72 @@
+// What is drawn at random for a call, from one word of a fixed generator.
+use characters::Handed;
+use characters::Slip;
+use characters::sessions;
+
+// How many words a page has.
+pub const PAGE: usize = 16;
+
+// The generator's first word.
+pub const FIRST: u64 = 0x9E37_79B9_7F4A_7C15;
+
+// Its next word: three shifts and three exclusive ors (xorshift64).
+pub fn next(word: u64) -> u64 {
+    let x = word ^ (word << 13);
+    let x = x ^ (x >> 7);
+    x ^ (x << 17)
+}
+
+// A word brought below a bound, and 0 where nothing is below it.
+fn below(word: u64, bound: usize) -> u32 {
+    if bound == 0 {
+        0
+    } else {
+        ((word % bound as u64) % 0x1_0000_0000) as u32
+    }
+}
+
+// A number in which now and then one bit is turned, so that it is wrong.
+fn turned(number: u32, word: u64) -> u32 {
+    number ^ (((word % 16 == 0) as u32) << ((word / 16) % 32))
+}
+
+// The slip of a call: for an opening its words are drawn, and a step has the slip at hand. A bit is turned now and
+// then.
+pub fn asked(opens: bool, slip: Slip, word: u64) -> Slip {
+    if !opens {
+        return Slip {
+            shape: slip.shape,
+            class: slip.class,
+            settled: slip.settled,
+            lines: slip.lines ^ (turned(0, word >> 48) as usize),
+            steps: slip.steps,
+        };
+    }
+    let degree = below(word, 17);
+    let count = listing::section(degree).count;
+    Slip {
+        shape: turned(
+            listing::shape_at(degree, below(word >> 8, count)).word,
+            word >> 20,
+        ),
+        class: turned(
+            listing::class_at(degree, below(word >> 28, count)).word,
+            word >> 44,
+        ),
+        settled: 0,
+        lines: 0,
+        steps: 0,
+    }
+}
+
+// Makes a call: an opening of the slip's words, or a step of it on a drawn line, mostly by the longest cycle of its
+// class, else by what is left of a cycle, with a bit turned now and then.
+pub fn make(opens: bool, slip: Slip, word: u64, page: &mut [u64; PAGE]) -> Handed {
+    if opens {
+        return sessions::open(slip.shape, slip.class, page);
+    }
+    let line = turned(below(word >> 8, slip.lines), word >> 20) as usize;
+    let class = page[line % PAGE] << (32 + ((word >> 28) & (word >> 32) & (word >> 36)) % 4);
+    let cycle = turned(u64::leading_zeros(class), word >> 40) as u64;
+    sessions::step(slip, page, line, cycle)
+}

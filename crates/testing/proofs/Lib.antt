@@ -1,0 +1,2 @@
+mod Whole
+pub mod Unique

@@ -1,0 +1,49 @@
+-- The whole numbers as a group: the laws, beside those of lib.IntN, that characters use.
+--   sums, signed-sums   sets for simp: sums are bracketed to the right and sorted; signs go inwards
+use mathlib.Core.Path.{_≡_, refl, sym, _∙_, ap}
+use native.Mathlib.Omega.{arith}
+use lib.IntN.{+ℤ-assoc, +ℤ-comm, +ℤ-idr, negℤ-+ℤ, negℤ-negℤ, pos-ne-negsuc, -ℤ-+ℤ-cancel, +ℤ-negℤ-cancel}
+use Rattle.theory.specs.Basics.{ℕ, zero, suc, _+_, ℤ, pos, negsuc, _+ℤ_, _-ℤ_, negℤ}
+pub mod Products
+
+pub swap-front : (a b c : ℤ) → a +ℤ (b +ℤ c) ≡ b +ℤ (a +ℤ c)
+swap-front a b c = sym (+ℤ-assoc a b c) ∙ ap (λ x. x +ℤ c) (+ℤ-comm a b) ∙ +ℤ-assoc b a c
+
+pub swap-back : (a b c : ℤ) → a +ℤ b +ℤ c ≡ a +ℤ c +ℤ b
+swap-back a b c = +ℤ-assoc a b c ∙ ap (λ x. a +ℤ x) (+ℤ-comm b c) ∙ sym (+ℤ-assoc a c b)
+
+pub ruleset sums = (+ℤ-assoc, +ℤ-comm, swap-front)
+
+pub ruleset signed-sums = (sums, negℤ-+ℤ, negℤ-negℤ)
+
+-- ---- signs
+pub own-opposite : (x : ℤ) → x ≡ negℤ x → x ≡ pos 0
+own-opposite (pos zero) e = refl
+own-opposite (pos (suc n)) e = absurd (pos-ne-negsuc (suc n) n e)
+own-opposite (negsuc n) e = absurd (pos-ne-negsuc (suc n) n (sym e))
+
+pub difference-back : (x y : ℤ) → negℤ (x -ℤ y) ≡ y -ℤ x
+difference-back x y = simp signed-sums
+
+pub negsuc-less : (n m : ℕ) → negsuc n -ℤ pos m ≡ negsuc (n + m)
+negsuc-less n zero = +ℤ-idr (negsuc n) ∙ ap negsuc (omega arith)
+negsuc-less n (suc m) = ap negsuc (omega arith)
+
+-- ---- one more, one less
+pub more-one : (a : ℤ) (n : ℕ) → a +ℤ pos 1 +ℤ pos n ≡ a +ℤ pos (suc n)
+more-one a n = +ℤ-assoc a (pos 1) (pos n) ∙ ap (λ k. a +ℤ pos k) (omega arith)
+
+pub less-one : (a : ℤ) (n : ℕ) → a -ℤ pos 1 +ℤ pos (suc n) ≡ a +ℤ pos n
+less-one a n = sym (more-one (a -ℤ pos 1) n) ∙ ap (λ x. x +ℤ pos n) (-ℤ-+ℤ-cancel a (pos 1))
+
+pub difference-one-more : (x y : ℤ) → (x +ℤ pos 1) -ℤ (y +ℤ pos 1) ≡ x -ℤ y
+difference-one-more x y =
+    ap (λ z. x +ℤ pos 1 +ℤ z) (negℤ-+ℤ y (pos 1)) ∙ ap (λ z. x +ℤ pos 1 +ℤ z) (+ℤ-comm (negℤ y) (negsuc 0))
+    ∙ sym (+ℤ-assoc (x +ℤ pos 1) (negsuc 0) (negℤ y)) ∙ ap (λ z. z -ℤ y) (+ℤ-negℤ-cancel x (pos 1))
+
+-- ---- from a difference to a sum
+pub from-difference : (a b z : ℤ) → a -ℤ b ≡ z → a ≡ b +ℤ z
+from-difference a b z e = sym (-ℤ-+ℤ-cancel a b) ∙ ap (λ x. x +ℤ b) e ∙ +ℤ-comm z b
+
+pub from-below : (a b : ℤ) (n : ℕ) → a -ℤ b ≡ negsuc n → b ≡ a +ℤ pos (suc n)
+from-below a b n e = from-difference b a (pos (suc n)) (sym (difference-back a b) ∙ ap negℤ e)

@@ -1,0 +1,47 @@
+-- `wordtests::class_data::count` is safe and ends. The index stays within the parts.
+use Prim.Native.Nat.{_≤_, _-_}
+use lib.ListN.{length}
+use borrow.Author.Needs.{needs}
+use Rattle.wordtests.proofs.class_data.count.Statement.{statement}
+use Rattle.wordtests.proofs.class_data.count.Tie as tie
+
+abbrev Inv-loop : tie.InvT-loop
+Inv-loop parts plus₀ product₀ last₀ i₀ plus product last i = i ≤ length parts
+
+abbrev μ-loop : tie.MeasureT-loop
+μ-loop parts plus₀ product₀ last₀ i₀ plus product last i = length parts - i
+
+loop-holds : tie.Need-loop-holds Inv-loop μ-loop
+loop-holds c = search needs
+
+shared-slice-read-part : tie.Need-shared-slice-read-part Inv-loop μ-loop
+shared-slice-read-part c = search needs
+
+times-requires : tie.Need-times-requires Inv-loop μ-loop
+times-requires c κs = search needs
+
+add-i : tie.Need-add-i Inv-loop μ-loop
+add-i c = search needs
+
+loop-less : tie.Need-loop-less Inv-loop μ-loop
+loop-less c = search needs
+
+loop-again : tie.Need-loop-again Inv-loop μ-loop
+loop-again c = search needs
+
+returns : tie.Need-returns Inv-loop μ-loop
+returns c = search needs
+
+pub count-spec : {M : Type 1} → statement M
+count-spec =
+    tie.close
+    (tie.spec
+    Inv-loop
+    μ-loop
+    loop-holds
+    shared-slice-read-part
+    times-requires
+    add-i
+    loop-less
+    loop-again
+    returns)

@@ -1,0 +1,138 @@
+-- No second outcome meets a contract. Each theorem is of the contract itself, as Rattle reads it (`Reads.Post`).
+use mathlib.Core.Path.{_≡_, sym, _∙_}
+use denote.Ref.{now}
+use Rattle.theory.specs.Limits.{degreeLimit}
+use Rattle.words.specs.Answers.Laws.{one-outcome}
+use Rattle.words.specs.Calls.{shapePartsInto, classPartsInto}
+use Rattle.characters.specs.Calls.{columnInto}
+use Rattle.characters.specs.Opening.{opening}
+use Rattle.characters.specs.Step.{step as stepOf}
+use Rattle.zembrusha.specs.Exports.{counted, given, handedRun}
+use Rattle.zembrusha.proofs.singles.zembrusha_character.Reads as character
+use Rattle.zembrusha.proofs.singles.zembrusha_character_refusal.Reads as character-refusal
+use Rattle.zembrusha.proofs.singles.zembrusha_degree.Reads as degree
+use Rattle.zembrusha.proofs.singles.zembrusha_degree_refusal.Reads as degree-refusal
+use Rattle.zembrusha.proofs.singles.zembrusha_character_degree.Reads as character-degree
+use Rattle.zembrusha.proofs.singles.zembrusha_character_degree_refusal.Reads as character-degree-refusal
+use Rattle.zembrusha.proofs.singles.zembrusha_conjugate.Reads as conjugate
+use Rattle.zembrusha.proofs.singles.zembrusha_conjugate_refusal.Reads as conjugate-refusal
+use Rattle.zembrusha.proofs.singles.zembrusha_class_sign.Reads as class-sign
+use Rattle.zembrusha.proofs.singles.zembrusha_class_sign_refusal.Reads as class-sign-refusal
+use Rattle.zembrusha.proofs.singles.zembrusha_class_size.Reads as class-size
+use Rattle.zembrusha.proofs.singles.zembrusha_class_size_refusal.Reads as class-size-refusal
+use Rattle.zembrusha.proofs.singles.zembrusha_class_period.Reads as class-period
+use Rattle.zembrusha.proofs.singles.zembrusha_class_period_refusal.Reads as class-period-refusal
+use Rattle.zembrusha.proofs.runs.zembrusha_shape_word.Reads as shape-word
+use Rattle.zembrusha.proofs.runs.zembrusha_class_word.Reads as class-word
+use Rattle.zembrusha.proofs.runs.zembrusha_shape_parts.Reads as shape-parts
+use Rattle.zembrusha.proofs.runs.zembrusha_class_parts.Reads as class-parts
+use Rattle.zembrusha.proofs.runs.zembrusha_column.Reads as column
+use Rattle.zembrusha.proofs.sessions.zembrusha_open.Reads as opened
+use Rattle.zembrusha.proofs.sessions.zembrusha_step.Reads as stepped
+use Rattle.zembrusha.proofs.sessions.zembrusha_watch_whole.Reads as watch-whole
+use Rattle.zembrusha.proofs.sessions.zembrusha_watch_ratio.Reads as watch-ratio
+use Rattle.zembrusha.proofs.sessions.zembrusha_watch_refusal.Reads as watch-refusal
+
+-- ---- single calls
+pub zembrusha-character-once : (κs : _) (a : _) (r r′ : _) (s s′ : _) → character.Post κs a r s
+    → character.Post κs a r′ s′ → r ≡ r′
+zembrusha-character-once κs a r r′ s s′ p q = p ∙ sym q
+
+pub zembrusha-character-refusal-once : (κs : _) (a : _) (r r′ : _) (s s′ : _) → character-refusal.Post κs a r s
+    → character-refusal.Post κs a r′ s′ → r ≡ r′
+zembrusha-character-refusal-once κs a r r′ s s′ p q = p ∙ sym q
+
+pub zembrusha-degree-once : (κs : _) (a : _) (r r′ : _) (s s′ : _) → degree.Post κs a r s
+    → degree.Post κs a r′ s′ → r ≡ r′
+zembrusha-degree-once κs a r r′ s s′ p q = p ∙ sym q
+
+pub zembrusha-degree-refusal-once : (κs : _) (a : _) (r r′ : _) (s s′ : _) → degree-refusal.Post κs a r s
+    → degree-refusal.Post κs a r′ s′ → r ≡ r′
+zembrusha-degree-refusal-once κs a r r′ s s′ p q = p ∙ sym q
+
+pub zembrusha-character-degree-once : (κs : _) (a : _) (r r′ : _) (s s′ : _) → character-degree.Post κs a r s
+    → character-degree.Post κs a r′ s′ → r ≡ r′
+zembrusha-character-degree-once κs a r r′ s s′ p q = p ∙ sym q
+
+pub zembrusha-character-degree-refusal-once : (κs : _) (a : _) (r r′ : _) (s s′ : _)
+    → character-degree-refusal.Post κs a r s
+    → character-degree-refusal.Post κs a r′ s′ → r ≡ r′
+zembrusha-character-degree-refusal-once κs a r r′ s s′ p q = p ∙ sym q
+
+pub zembrusha-conjugate-once : (κs : _) (a : _) (r r′ : _) (s s′ : _) → conjugate.Post κs a r s
+    → conjugate.Post κs a r′ s′ → r ≡ r′
+zembrusha-conjugate-once κs a r r′ s s′ p q = p ∙ sym q
+
+pub zembrusha-conjugate-refusal-once : (κs : _) (a : _) (r r′ : _) (s s′ : _) → conjugate-refusal.Post κs a r s
+    → conjugate-refusal.Post κs a r′ s′ → r ≡ r′
+zembrusha-conjugate-refusal-once κs a r r′ s s′ p q = p ∙ sym q
+
+pub zembrusha-class-sign-once : (κs : _) (a : _) (r r′ : _) (s s′ : _) → class-sign.Post κs a r s
+    → class-sign.Post κs a r′ s′ → r ≡ r′
+zembrusha-class-sign-once κs a r r′ s s′ p q = p ∙ sym q
+
+pub zembrusha-class-sign-refusal-once : (κs : _) (a : _) (r r′ : _) (s s′ : _) → class-sign-refusal.Post κs a r s
+    → class-sign-refusal.Post κs a r′ s′ → r ≡ r′
+zembrusha-class-sign-refusal-once κs a r r′ s s′ p q = p ∙ sym q
+
+pub zembrusha-class-size-once : (κs : _) (a : _) (r r′ : _) (s s′ : _) → class-size.Post κs a r s
+    → class-size.Post κs a r′ s′ → r ≡ r′
+zembrusha-class-size-once κs a r r′ s s′ p q = p ∙ sym q
+
+pub zembrusha-class-size-refusal-once : (κs : _) (a : _) (r r′ : _) (s s′ : _) → class-size-refusal.Post κs a r s
+    → class-size-refusal.Post κs a r′ s′ → r ≡ r′
+zembrusha-class-size-refusal-once κs a r r′ s s′ p q = p ∙ sym q
+
+pub zembrusha-class-period-once : (κs : _) (a : _) (r r′ : _) (s s′ : _) → class-period.Post κs a r s
+    → class-period.Post κs a r′ s′ → r ≡ r′
+zembrusha-class-period-once κs a r r′ s s′ p q = p ∙ sym q
+
+pub zembrusha-class-period-refusal-once : (κs : _) (a : _) (r r′ : _) (s s′ : _) → class-period-refusal.Post κs a r s
+    → class-period-refusal.Post κs a r′ s′ → r ≡ r′
+zembrusha-class-period-refusal-once κs a r r′ s s′ p q = p ∙ sym q
+
+-- ---- lent runs
+pub zembrusha-shape-word-once : (κs : _) (a : _) (r r′ : _) (s s′ : _) → shape-word.Post κs a r s
+    → shape-word.Post κs a r′ s′ → r ≡ r′
+zembrusha-shape-word-once κs a r r′ s s′ p q = p ∙ sym q
+
+pub zembrusha-class-word-once : (κs : _) (a : _) (r r′ : _) (s s′ : _) → class-word.Post κs a r s
+    → class-word.Post κs a r′ s′ → r ≡ r′
+zembrusha-class-word-once κs a r r′ s s′ p q = p ∙ sym q
+
+pub zembrusha-shape-parts-once : (κs : _) (a : _) (r r′ : _) (s s′ : _) → shape-parts.Post κs a r s
+    → shape-parts.Post κs a r′ s′ → (r ≡ r′) × (now (s .1 .0) ≡ now (s′ .1 .0))
+zembrusha-shape-parts-once κs a r r′ s s′ p q =
+    one-outcome (counted (shapePartsInto degreeLimit (a .0) (now (a .1 .0)))) p q
+
+pub zembrusha-class-parts-once : (κs : _) (a : _) (r r′ : _) (s s′ : _) → class-parts.Post κs a r s
+    → class-parts.Post κs a r′ s′ → (r ≡ r′) × (now (s .1 .0) ≡ now (s′ .1 .0))
+zembrusha-class-parts-once κs a r r′ s s′ p q =
+    one-outcome (counted (classPartsInto degreeLimit (a .0) (now (a .1 .0)))) p q
+
+pub zembrusha-column-once : (κs : _) (a : _) (r r′ : _) (s s′ : _) → column.Post κs a r s → column.Post κs a r′ s′
+    → (r ≡ r′) × (now (s .1 .0) ≡ now (s′ .1 .0))
+zembrusha-column-once κs a r r′ s s′ p q = one-outcome (counted (columnInto degreeLimit (a .0) (now (a .1 .0)))) p q
+
+-- ---- sessions
+pub zembrusha-open-once : (κs : _) (a : _) (r r′ : _) (s s′ : _) → opened.Post κs a r s → opened.Post κs a r′ s′
+    → (r ≡ r′) × (now (s .1 .1 .0) ≡ now (s′ .1 .1 .0))
+zembrusha-open-once κs a r r′ s s′ p q =
+    one-outcome (handedRun (opening degreeLimit (a .0) (a .1 .0) (now (a .1 .1 .0)))) p q
+
+pub zembrusha-step-once : (κs : _) (a : _) (r r′ : _) (s s′ : _) → stepped.Post κs a r s → stepped.Post κs a r′ s′
+    → (r ≡ r′) × (now (s .1 .0) ≡ now (s′ .1 .0))
+zembrusha-step-once κs a r r′ s s′ p q =
+    one-outcome (handedRun (stepOf degreeLimit (given (a .0)) (now (a .1 .0)) (a .1 .1 .0) (a .1 .1 .1 .0))) p q
+
+pub zembrusha-watch-whole-once : (κs : _) (a : _) (r r′ : _) (s s′ : _) → watch-whole.Post κs a r s
+    → watch-whole.Post κs a r′ s′ → r ≡ r′
+zembrusha-watch-whole-once κs a r r′ s s′ p q = p ∙ sym q
+
+pub zembrusha-watch-ratio-once : (κs : _) (a : _) (r r′ : _) (s s′ : _) → watch-ratio.Post κs a r s
+    → watch-ratio.Post κs a r′ s′ → r ≡ r′
+zembrusha-watch-ratio-once κs a r r′ s s′ p q = p ∙ sym q
+
+pub zembrusha-watch-refusal-once : (κs : _) (a : _) (r r′ : _) (s s′ : _) → watch-refusal.Post κs a r s
+    → watch-refusal.Post κs a r′ s′ → r ≡ r′
+zembrusha-watch-refusal-once κs a r r′ s s′ p q = p ∙ sym q

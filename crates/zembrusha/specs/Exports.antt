@@ -1,0 +1,47 @@
+-- The answers of the calls as the exports hand them over.
+--   ofWord answer, ofCount answer   the word or the count as a number, the refusal number beside it
+--   given slip                      the slip that the calculator is handed; handedOver k slip, what it hands back
+--   handedRun outcome               a handed slip and a page: the slip handed over, the page as it is
+--   number value                    the whole number that a watch gives, 0 where it gives none; fraction, the ratio
+--   counted outcome                 an answer and a lent run: the answer handed over, the run as it is
+use lib.Ieee.{Float, binary64, ofBits}
+use Rattle.theory.specs.Basics.{List, ℕ, ℤ, pos}
+use Rattle.words.specs.declared.CountAnswer.{CountAnswer}
+use Rattle.words.specs.declared.WordAnswer.{WordAnswer}
+use Rattle.characters.specs.declared.Slip as calculator
+use Rattle.characters.specs.declared.Handed as calculator-handed
+use Rattle.characters.specs.Watch.{Value, whole, quotient, none}
+use Rattle.zembrusha.specs.declared.Number.{Number}
+use Rattle.zembrusha.specs.declared.Slip.{Slip}
+use Rattle.zembrusha.specs.declared.Handed.{Handed}
+
+abbrev pub ofWord : WordAnswer → Number
+ofWord a = record { refused = a .refused; number = a .word }
+
+abbrev pub ofCount : CountAnswer → Number
+ofCount a = record { refused = a .refused; number = a .count }
+
+abbrev pub counted : {A : Type 0} → CountAnswer × List A → Number × List A
+counted x = (ofCount (x .0), x .1)
+
+abbrev pub given : Slip → calculator.Slip
+given s = record { shape = s .shape; class = s .«class_word»; settled = s .settled; lines = s .lines; steps = s .steps }
+
+abbrev pub handedOver : ℕ → calculator.Slip → Handed
+handedOver k s = record {
+  refused = k;
+  slip = record { shape = s .shape; «class_word» = s .class; settled = s .settled; lines = s .lines; steps = s .steps };
+}
+
+abbrev pub handedRun : calculator-handed.Handed × List ℕ → Handed × List ℕ
+handedRun x = (handedOver (x .0 .refused) (x .0 .slip), x .1)
+
+abbrev pub number : Value → ℤ
+number (whole z) = z
+number (quotient q) = pos 0
+number none = pos 0
+
+abbrev pub fraction : Value → Float
+fraction (whole z) = ofBits binary64 0
+fraction (quotient q) = q
+fraction none = ofBits binary64 0

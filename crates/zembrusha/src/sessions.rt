@@ -1,0 +1,116 @@
+// Sessions: the slip goes in and comes back by value, the page is lent.
+ghost use mathlib.Core.Path.{_≡_};
+ghost use Rattle.theory.specs.Limits.{degreeLimit};
+ghost use Rattle.words.specs.Answers.{Outcome};
+ghost use Rattle.characters.specs.Opening.{opening};
+ghost use Rattle.characters.specs.Step.{step};
+ghost use Rattle.characters.specs.Watch.{reads, watch};
+ghost use Rattle.zembrusha.specs.Exports.{given, handedOver, handedRun, number, fraction};
+use super::Handed;
+use super::Slip;
+use characters::Watched;
+
+fn slip_in(slip: Slip) -> characters::Slip
+    ensures { λ r. ⌜ r ≡ given slip ⌝ }
+{
+    characters::Slip {
+        shape: slip.shape,
+        class: slip.class_word,
+        settled: slip.settled,
+        lines: slip.lines as usize,
+        steps: slip.steps,
+    }
+}
+
+fn slip_out(refused: u8, slip: characters::Slip) -> Handed
+    ensures { λ r. ⌜ r ≡ handedOver refused slip ⌝ }
+{
+    Handed {
+        refused: refused as u32,
+        slip: Slip {
+            shape: slip.shape,
+            class_word: slip.class,
+            settled: slip.settled,
+            lines: slip.lines as u64,
+            steps: slip.steps,
+        },
+    }
+}
+
+// Opens a session of a shape on a class.
+#[no_mangle]
+pub extern "C" fn zembrusha_open(shape: u32, class: u32, page: &mut [u64]) -> Handed
+    ensures { λ r. ⌜ Outcome (handedRun (opening degreeLimit shape class (now (page .entry)))) r (now (page .exit)) ⌝ }
+{
+    let opened = characters::sessions::open(shape, class, page);
+    let slip = opened.slip;
+    slip_out(opened.refused, slip)
+}
+
+// Strikes a cycle from a line.
+#[no_mangle]
+pub extern "C" fn zembrusha_step(slip: Slip, page: &mut [u64], line: u64, cycle: u64) -> Handed
+    ensures { λ r. ⌜ Outcome (handedRun (step degreeLimit (given slip) (now (page .entry)) line cycle))
+        r (now (page .exit)) ⌝ }
+{
+    let stepped = characters::sessions::step(slip_in(slip), page, line as usize, cycle);
+    let next = stepped.slip;
+    slip_out(stepped.refused, next)
+}
+
+// The whole number of what was watched, 0 where there is none.
+fn whole(watched: Watched) -> i64
+    ensures { λ r. ⌜ r ≡ number (reads watched .1) ⌝ }
+{
+    match watched {
+        Watched::Whole(number) => number,
+        Watched::Ratio(_) => 0,
+        Watched::Refused(_) => 0,
+    }
+}
+
+// The ratio of what was watched, 0 where there is none.
+fn ratio(watched: Watched) -> f64
+    ensures { λ r. ⌜ r ≡ fraction (reads watched .1) ⌝ }
+{
+    match watched {
+        Watched::Ratio(ratio) => ratio,
+        Watched::Whole(_) => 0.0,
+        Watched::Refused(_) => 0.0,
+    }
+}
+
+// The number that refused, 0 for none.
+fn refusal(watched: Watched) -> u32
+    ensures { λ r. ⌜ r ≡ reads watched .0 ⌝ }
+{
+    match watched {
+        Watched::Refused(number) => number as u32,
+        Watched::Whole(_) => 0,
+        Watched::Ratio(_) => 0,
+    }
+}
+
+// The whole number that a watch gives, 0 where it gives none.
+#[no_mangle]
+pub extern "C" fn zembrusha_watch_whole(slip: Slip, page: &[u64], kind: u64, line: u64) -> i64
+    ensures { λ r. ⌜ r ≡ number (watch degreeLimit (given slip) (now (page .entry)) kind line .1) ⌝ }
+{
+    whole(characters::sessions::watch(slip_in(slip), page, kind, line as usize))
+}
+
+// The ratio that a watch gives, 0 where it gives none.
+#[no_mangle]
+pub extern "C" fn zembrusha_watch_ratio(slip: Slip, page: &[u64], kind: u64, line: u64) -> f64
+    ensures { λ r. ⌜ r ≡ fraction (watch degreeLimit (given slip) (now (page .entry)) kind line .1) ⌝ }
+{
+    ratio(characters::sessions::watch(slip_in(slip), page, kind, line as usize))
+}
+
+// The refusal number of the same watch, 0 for none.
+#[no_mangle]
+pub extern "C" fn zembrusha_watch_refusal(slip: Slip, page: &[u64], kind: u64, line: u64) -> u32
+    ensures { λ r. ⌜ r ≡ watch degreeLimit (given slip) (now (page .entry)) kind line .0 ⌝ }
+{
+    refusal(characters::sessions::watch(slip_in(slip), page, kind, line as usize))
+}

@@ -54,9 +54,10 @@ def table(comment, name, kind, entries, length=None):
 
 with open('crates/listing/src/tables.rt', 'w') as file:
     file.write('// The tables of the listing. Made by tools/tables.py; lib.rt says what each has, and is proved.\n')
-    file.write(table('How many partitions each degree has.', 'COUNTS', 'usize', counts))
-    file.write(table('Where each degree starts in WORDS.', 'STARTS', 'usize', starts))
-    file.write(table('The shape words, degree by degree, each degree in listing order.', 'WORDS', 'u32', words))
+    file.write(table('How many partitions each degree has.', 'COUNTS', 'usize', counts, 'words::DEGREES'))
+    file.write(table('Where each degree starts in WORDS.', 'STARTS', 'usize', starts, 'words::DEGREES'))
+    file.write(table('The shape words, degree by degree, each degree in listing order.', 'WORDS', 'u32', words,
+                     'super::WORD_COUNT'))
 
 with open('crates/characters/src/tables.rt', 'w') as file:
     file.write('// Made by tools/tables.py; lookup.rt says what the table has, and is proved.\n')

@@ -1,20 +1,24 @@
 // A plain Rust twin of the library's column: the same algorithm over the same tables.
+const WORD_COUNT: usize = 915;
+
 #[allow(dead_code)]
 mod tables {
+    // What the tables name of the crates around them.
+    mod words {
+        pub const DEGREES: usize = 17;
+    }
     include!("../../crates/characters/src/tables.rt");
     include!("../../crates/listing/src/tables.rt");
 }
-use tables::{COUNTS, PLACES, STARTS, WORDS};
-
-const ROOM: usize = 1120;
+use tables::{COUNTS, DISPLACEMENTS, EIGHT_DIGITS, PLACE_COUNT, STARTS, WORDS};
 
 fn place(word: u32) -> usize {
-    PLACES[(word >> 22) as usize] as usize + ((word >> 14) % 256) as usize
+    DISPLACEMENTS[(word >> 22) as usize] as usize + (word >> 14) as usize % EIGHT_DIGITS
 }
 
 // The words of a degree, in listing order.
 fn section(degree: usize) -> &'static [u32] {
-    static ALL: [u32; 915] = WORDS;
+    static ALL: [u32; WORD_COUNT] = WORDS;
     &ALL[STARTS[degree]..][..COUNTS[degree]]
 }
 
@@ -36,7 +40,7 @@ fn hook_sum(table: &[i64], shape: u32, length: u32) -> i64 {
 
 // The values of a class for all shapes of its degree, in listing order; how many there are is the answer.
 pub fn column(parts: &[u8], values: &mut [i64]) -> usize {
-    let mut table = [0i64; ROOM];
+    let mut table = [0i64; PLACE_COUNT];
     table[place(0)] = 1;
     let mut degree = 0usize;
     for &part in parts.iter().rev() {

@@ -1,63 +1,295 @@
 #!/usr/bin/env python3
-"""docs.py: every name that docs/READING.md, PROMISES.md and ARCHITECTURE.md cite is there. Run in the repository.
+"""docs.py: what the pages name is there, and what is there is named. Run it in the repository; needs python3 alone.
 
-In READING.md `X: `a` `b`` says that the file X.antt has a and b, X being below crates/theory/specs or beginning with a
-crate's name; in all three, `crate::path::function` is a function of that crate, and a name with underscores that is no
-function is a must-fail edit; in READING.md a number of lines beside a file is that file's. Prints what is not so; the
-exit status is 0 only where nothing is lacking."""
+The pages are README.md and docs/*.md; docs/changes/*.md are history, which names what has gone, and are left out.
+- Every name in backquotes is a crate, a module, a function, a type, a field, a constant, an edit, a definition or
+  theorem, a file or folder, a command, or one of the few words listed below. X: `name` says that X.antt has it.
+- docs/PROMISES.md has one row for each public function, and no other; its theorem stands in proofs/Unique.antt of its
+  crate and speaks of this function's contract; its edits are must-fail edits of its crate, or of the one that it names;
+  each call but an export has two or more, or an exception with a reason.
+- Every edit, and every theorem of a Unique.antt, is named: an edit on PROMISES or READING, a theorem on PROMISES.
+- Every definition file is named on READING, and the tables that tools/pages.py writes are what it writes.
+- Decisions are numbered, each number once, and a number that is cited is there; a line of text has at most 120
+  characters.
+It tells that a name is there, not that it says what the page claims. Last it tries itself: a page that is changed in
+one place must be found wrong. Prints what is not so; the exit status is 0 only where there is nothing."""
+import functools
 import glob
 import os
 import re
 import sys
 
-crates = [os.path.basename(folder) for folder in glob.glob('crates/*')]
-edits = {os.path.basename(file)[:-5] for file in glob.glob('crates/*/must-fail/*.edit')}
-functions = set()
-for file in glob.glob('crates/*/src/**/*.rt', recursive=True):
-    parts = file[:-3].split('/')
-    path = [parts[1]] + [part for part in parts[3:] if part not in ('lib', 'main')]
-    for name in re.findall(r'\bfn (\w+)', open(file, encoding='utf8').read()):
-        functions.add('::'.join(path + [name]))
-plain = {function.split('::')[-1] for function in functions}
-lacking = []
+sys.dont_write_bytecode = True
+sys.path.insert(0, 'tools')
+import pages  # noqa: E402
+import tree  # noqa: E402
+
+PROMISES, READING, DECISIONS = 'docs/PROMISES.md', 'docs/READING.md', 'docs/DECISIONS.md'
+
+# Words of the two languages and of the notation, of the kit's library, placeholders, and texts that are shown.
+WORDS = set('''requires ensures abbrev unfoldable pub rt u8 u32 u64 i64 usize f64 read write old new file extern help
+X F NAME CRATE mod enum struct stdout
+'''.split()) | {
+    'x ∷ xs', '[]', '++', '≡', '×', '→ ⊥', '(n : ℕ) × P', '(_=? p)', 'cond b x y', 'elim z [ | pos n ↦ .. ]',
+    'r .refused', '.0', '.1', 'now (page .entry)', 'now (page .exit)', '&', '&[u8]', '&[..]', '&[u64]', '&mut [..]',
+    '&mut [u64]', '&mut [i64]', '!s & (s << h)', 'suc zero', 'extern "C"', '-lzembrusha',
+    'X: name', 'X.antt', 'specs/X.antt', 'specs/X/', 'proofs/F/Proof.antt', 'crate::function', '2 ^ 53',
+    'degree=', 'degree=3', 'class=', 'class=3', 'refused=12', 'refused=13', 'table 5', '0x2C000000', 'N passed, 0 failed',
+    'old:', 'new:', 'pub mod', 'pub fn', 'target/must-fail/NAME/EDIT/.log'}
+
+# Commands of rt, and the folder of what they make, which need not be there.
+COMMANDS = 'check ci dev doc fmt goals must-fail prove staticlib try'.split()
+MADE = 'target/'
 
 
-def defined(name, text):
-    """Whether an antt text defines a name: at the start of a line, as a field, a constructor or a definition."""
-    words = r'(?:(?:abbrev|unfoldable|pub|record|data) )*'
-    return re.search(r'^ *%s%s(?= |:|$)' % (words, re.escape(name)), text, re.M) is not None
+# ---- what is there
+
+@functools.cache
+def modules():
+    """Every path of a module, as crate::module."""
+    return {function.rsplit('::', 1)[0] for function in tree.functions()} | {
+        file[len('crates/'):-len('.rt')].replace('/src/', '::') for file in glob.glob('crates/*/src/**/*.rt', recursive=True)}
 
 
-def cited(document, text):
-    file_name = r'((?:[A-Z]|[a-z]+/specs/|[a-z]+/proofs/)[A-Za-z0-9/]*)'
-    for file, names in re.findall(file_name + r': ((?:`[^`]+`(?: \([^)]*\))?(?:,| \.\.)? ?)+)', text):
-        place = file if file.split('/')[0] in crates else 'theory/specs/' + file
-        path = 'crates/%s.antt' % place
-        if not os.path.exists(path):
-            lacking.append('%s: no file %s' % (document, path))
+@functools.cache
+def source_names():
+    """Types, fields, variants and constants of the Rattle source."""
+    found = set()
+    for file in glob.glob('crates/*/src/**/*.rt', recursive=True):
+        text = tree.without_comments(tree.read(file))
+        found.update(re.findall(r'\b(?:struct|enum|const|impl) (\w+)', text))
+        for body in re.findall(r'\b(?:struct|enum) \w+ \{(.*?)\}', text, re.S):
+            found.update(re.findall(r'^\s*(?:pub )?(\w+)(?::|\(|,)', body, re.M))
+    return found
+
+
+@functools.cache
+def antt_names():
+    """Definitions, theorems, fields and constructors, and the names of the kit's library that READING lists."""
+    found = set()
+    for file in tree.antt_files():
+        for item in tree.module(file)[0].values():
+            found |= {item.name} | item.inner
+    words = pages.believed() | pages.words_of_theorems(tree.read(READING))
+    return found | {name for file, name in words if not file.startswith('crates/')}
+
+
+@functools.cache
+def plain_names():
+    paths = [*tree.functions(), *modules()]
+    return set(tree.crates()) | {part for path in paths for part in path.split('::')} | source_names() | antt_names() | set(
+        tree.edits())
+
+
+def there(path):
+    """Whether a path is one of the repository, of a crate, or of a crate's specs, with braces and stars."""
+    m = re.search(r'\{([^}]*)\}', path)
+    if m:
+        return all(there(path[:m.start()] + one + path[m.end():]) for one in m[1].split(','))
+    path = path.rstrip('/')
+    return path.startswith(MADE[:-1]) or any(
+        glob.glob(front + path + back) for front in ('', 'crates/', 'crates/*/', 'crates/*/src/', 'crates/*/specs/', 'crates/*/specs/*/')
+        for back in ('', '.antt'))
+
+
+def command(words):
+    """Whether words are a command: of rt, on crates, or of a script, on files."""
+    if words[0] == 'rt':
+        return words[1] in COMMANDS and all(
+            word in tree.crates() or word in ('NAME', 'CRATE') or word.startswith('-') for word in words[2:])
+    return '/' in words[0] and all(there(word) for word in words if '/' in word)
+
+
+def expression(name):
+    """Whether a formula is of known names, numbers and short names of variables, at least one being known."""
+    words = re.findall(r'[^\W\d_][\w·-]*', name)
+    long = [word for word in words if len(word) > 2]
+    return bool(long) and all(word in plain_names() or word in WORDS for word in long)
+
+
+def named(name):
+    if name in WORDS or name in plain_names():
+        return True
+    if re.fullmatch(r'[\w:]+', name) and '::' in name:
+        return any(('::' + path).endswith('::' + name) for path in [*tree.functions(), *modules()])
+    if ' ' not in name and re.search(r'[/.]', name):
+        return there(name)
+    words = name.split()
+    return len(words) > 1 and (command(words) if words[0] == 'rt' or '/' in words[0] else expression(name))
+
+
+# ---- what is wrong
+
+def wrong_names(page, text):
+    for line in text.splitlines():
+        if line.count('`') % 2:
+            yield '%s: a backquote is open: %s' % (page, line[:60])
+    for name in set(re.findall(r'`([^`]+)`', text)):
+        name = ' '.join(name.split())
+        cited = re.fullmatch(pages.CITED_FILE + r': (\S+)', name)
+        if not cited and not named(name):
+            yield '%s: nothing is named %s' % (page, name)
+    for file, name in set(pages.citations(text)) - {('X', 'name')}:
+        found = pages.cited_file(file)
+        if len(found) != 1:
+            yield '%s: %s is %s' % (page, file, 'no file' if not found else 'one of ' + ', '.join(found))
+        else:
+            items = tree.module(found[0])[0]
+            if name not in items and not any(name in item.inner for item in items.values()):
+                yield '%s: %s has no %s' % (page, found[0], name)
+    for path in set(re.findall(r'(?<![\w/`.])((?:docs|tests|tools|window|crates|bench|\.ci)/[\w./-]*\w)', text)):
+        if not there(path) and path not in WORDS:
+            yield '%s: no file %s' % (page, path)
+
+
+def rows_of(text):
+    return re.findall(r'^\| `(\w+(?:::\w+)+)` \| (.*?) \| (.*?) \|$', text, re.M)
+
+
+def reasoned(cell):
+    m = re.search(r'exception: ([^;|]*)', cell)
+    return bool(m) and len(m[1].split()) >= 2
+
+
+def wrong_theorem(function, crate, cell):
+    names = re.findall(r'`([^`]+)`', cell)
+    if reasoned(cell):
+        return
+    if len(names) != 1:
+        yield 'names no theorem, or more than one'
+        return
+    file = 'crates/%s/proofs/Unique.antt' % crate
+    items, brought = tree.module(file) if os.path.exists(file) else ({}, {})
+    item = items.get(names[0])
+    if not item or not item.text.startswith('pub '):
+        yield '%s has no theorem %s' % (file, names[0])
+        return
+    reads = 'Rattle.%s.proofs.%s.Reads' % (crate, '.'.join(function.split('::')[1:]))
+    alias = [name[1:] for name, (module, _) in brought.items() if module == reads and name.startswith('*')]
+    if not alias or item.statement.count(' %s.Post ' % alias[0]) != 2:
+        yield '%s is not about this function' % names[0]
+
+
+def wrong_edits(crate, cell):
+    names = re.findall(r'`([^`]+)`((?: \(of \w+)?)', cell)
+    for name, other in names:
+        home = other.replace(' (of ', '') or crate
+        if home not in tree.edits().get(name, []):
+            yield '%s has no edit %s' % (home, name)
+    if crate == 'zembrusha':
+        if not names and 'thin' not in cell:
+            yield 'neither thin nor with edits'
+    elif len(names) < 2 and not reasoned(cell):
+        yield '%d edits, two wanted' % len(names)
+
+
+def wrong_promises(text):
+    rows = rows_of(text)
+    found = [function for function, _, _ in rows]
+    public = {function.path: function for function in tree.public_functions()}
+    for path, function in public.items():
+        if found.count(path) != 1:
+            yield '%s has %d rows' % (path, found.count(path))
+        if not function.promise or function.asks:
+            yield '%s has no ensures, or a requires' % path
+    for function, theorem, edits in rows:
+        crate = function.split('::')[0]
+        if function not in public:
+            yield '%s is no public function' % function
             continue
-        source = open(path, encoding='utf8').read()
-        for name in re.findall(r'`([^`]+)`', names):
-            if '::' not in name and not defined(name, source):
-                lacking.append('%s: %s has no %s' % (document, path, name))
+        for why in [*wrong_theorem(function, crate, theorem), *wrong_edits(crate, edits)]:
+            yield '%s: %s' % (function, why)
+    theorems = [name for _, cell, _ in rows for name in re.findall(r'`([^`]+)`', cell)]
+    for file in glob.glob('crates/*/proofs/Unique.antt'):
+        for name, item in tree.module(file)[0].items():
+            if item.text.startswith('pub ') and theorems.count(name) != 1:
+                yield '%s of %s is named %d times' % (name, file, theorems.count(name))
 
 
-for document in ('READING', 'PROMISES', 'ARCHITECTURE'):
-    text = open('docs/%s.md' % document, encoding='utf8').read()
-    if document == 'READING':
-        cited(document, text)
-    for name in set(re.findall(r'`([a-z][a-z_0-9:]*)`', text)):
-        if '::' in name and name.split('::')[0] in crates:
-            if name not in functions:
-                lacking.append('%s: no function %s' % (document, name))
-        elif '_' in name and '::' not in name and name not in plain | edits | set(crates):
-            lacking.append('%s: neither function nor edit: %s' % (document, name))
+def wrong_converse(texts):
+    both = set(re.findall(r'`([^`]+)`', texts[PROMISES] + texts[READING]))
+    for edit, crates in tree.edits().items():
+        if edit not in both:
+            yield 'no page names the edit %s of %s' % (edit, ', '.join(crates))
+    for file in glob.glob('crates/*/specs/*.antt'):
+        if os.path.basename(file) not in ('Lib.antt', 'Private.antt') and file not in both:
+            yield '%s: %s is not listed' % (READING, file)
 
-reading = open('docs/READING.md', encoding='utf8').read()
-for file, lines in re.findall(r'`(crates/[^`]+\.antt)` \| [^|]+ \| (\d+) \|', reading):
-    if not os.path.exists(file) or len(open(file, encoding='utf8').readlines()) != int(lines):
-        lacking.append('READING: %s has not %s lines' % (file, lines))
 
-for line in lacking:
-    print(line)
-sys.exit(1 if lacking else 0)
+def wrong_decisions(texts):
+    numbers = re.findall(r'^\*\*D(\d+)\. ', texts[DECISIONS], re.M)
+    for number in sorted(set(numbers), key=int):
+        if numbers.count(number) > 1:
+            yield '%s: D%s is there twice' % (DECISIONS, number)
+    for line in texts[DECISIONS].splitlines():
+        if line.startswith('**') and not re.match(r'\*\*D\d+\. ', line):
+            yield '%s: no number: %s' % (DECISIONS, line[:60])
+    for page, text in texts.items():
+        for number in set(re.findall(r'\bD(\d+)\b', text)) - set(numbers):
+            yield '%s: there is no decision D%s' % (page, number)
+
+
+def wrong_lines(page, text):
+    for line in text.splitlines():
+        if len(line) > 120 and not line.startswith('|'):
+            yield '%s: more than 120 characters: %s' % (page, line[:60])
+
+
+def lacking(texts):
+    for page, text in texts.items():
+        yield from wrong_names(page, pages.flowing(text))
+        yield from wrong_lines(page, text)
+    for why in wrong_promises(texts[PROMISES]):
+        yield '%s: %s' % (PROMISES, why)
+    yield from wrong_converse(texts)
+    yield from wrong_decisions(texts)
+    yield from pages.differences(texts)
+
+
+# ---- this test, tried
+
+# What makes a page wrong: the page, a pattern, and what takes its place, once.
+CHANGES = [
+    (PROMISES, r'^\| `words::.*\n', ''),
+    (PROMISES, r'^(\| `words::.*\n)', r'\1\1'),
+    (PROMISES, r'^\| `words::', '| `word::'),
+    (PROMISES, r'`([a-z-]+)-once`', r'`\1-onec`'),
+    (PROMISES, r'`shape-word-once`', '`class-word-once`'),
+    (PROMISES, r'^(\| `words::.*? \| .*? \| `)(\w+)`', r'\1not_\2`'),
+    (PROMISES, r'^(\| `words::.*? \| .*? \| `\w+`).*', r'\1 |'),
+    (PROMISES, r'^(\| `listing::.*? \| .*? \| `)\w+`', r'\1list_last_rise`'),
+    (PROMISES, r'exception: [^;|]*', 'exception: '),
+    (READING, r'Hooks/Rule: `hook-rule`', 'Hooks/Rule: `hook-rul`'),
+    (READING, r'Hooks/Rule: ', 'Hooks/Words: '),
+    (READING, r'`characters::character`', '`characters::charakter`'),
+    (READING, r'\.antt` \|', '.ant` |'),
+    (READING, r'\| (\d+) \|$', r'| 1\1 |'),
+    (READING, r'`Evaluation`', '`Evaluations`'),
+    ('docs/ARCHITECTURE.md', r'\| (\d+) \|', r'| 1\1 |'),
+    ('docs/ARCHITECTURE.md', r'`lines::strip`', '`lines::stripe`'),
+    ('docs/PROOF.md', r'`lowered-lowered`', '`lowered-lowering`'),
+    ('docs/CONTRIBUTING.md', r'`rt dev', '`rt deliver'),
+    (DECISIONS, r'^\*\*D2\. ', '**D1. '),
+    ('README.md', r'`window/zembrusha\.h`', '`window/zembrush.h`'),
+]
+
+
+def unnoticed(texts):
+    """The changes that make no page wrong, or that find nothing to change."""
+    for page, pattern, instead in CHANGES:
+        changed, count = re.subn(pattern, instead, texts[page], count=1, flags=re.M)
+        if not count:
+            yield 'docs.py: %s has no %s' % (page, pattern)
+        elif not any(True for _ in lacking({**texts, page: changed})):
+            yield 'docs.py: not noticed in %s: %s' % (page, pattern)
+
+
+def main():
+    texts = {page: tree.read(page) for page in ['README.md', *sorted(glob.glob('docs/*.md'))]}
+    found = sorted(set(lacking(texts))) or list(unnoticed(texts))
+    for line in found:
+        print(line)
+    sys.exit(1 if found else 0)
+
+
+main()

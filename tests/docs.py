@@ -27,19 +27,22 @@ import tree  # noqa: E402
 PROMISES, READING, DECISIONS = 'docs/PROMISES.md', 'docs/READING.md', 'docs/DECISIONS.md'
 
 # Words of the two languages and of the notation, of the kit's library, placeholders, and texts that are shown.
-WORDS = set('''requires ensures abbrev unfoldable pub rt u8 u32 u64 i64 usize f64 read write old new file extern help
-X F NAME CRATE mod enum struct stdout
+WORDS = set('''requires ensures abbrev unfoldable pub mod enum struct extern u8 u64 i64 usize f64 read write
+rt help stdout NAME CRATE
 '''.split()) | {
     'x ∷ xs', '[]', '++', '≡', '×', '→ ⊥', '(n : ℕ) × P', '(_=? p)', 'cond b x y', 'elim z [ | pos n ↦ .. ]',
     'r .refused', '.0', '.1', 'now (page .entry)', 'now (page .exit)', '&', '&[u8]', '&[..]', '&[u64]', '&mut [..]',
     '&mut [u64]', '&mut [i64]', '!s & (s << h)', 'suc zero', 'extern "C"', '-lzembrusha',
-    'X: name', 'X.antt', 'specs/X.antt', 'specs/X/', 'proofs/F/Proof.antt', 'crate::function', '2 ^ 53',
-    'degree=', 'degree=3', 'class=', 'class=3', 'refused=12', 'refused=13', 'table 5', '0x2C000000', 'N passed, 0 failed',
-    'old:', 'new:', 'pub mod', 'pub fn', 'target/must-fail/NAME/EDIT/.log'}
+    'X: name', 'X.antt', 'specs/X.antt', 'specs/X/', 'proofs/F/Proof.antt', 'crate::function',
+    'degree=', 'degree=3', 'class=', 'class=3', 'refused=12', 'refused=13', 'table 5', '0x2C000000',
+    'N passed, 0 failed', 'old:', 'new:', 'pub mod', 'pub fn'}
 
 # Commands of rt, and the folder of what they make, which need not be there.
 COMMANDS = 'check ci dev doc fmt goals must-fail prove staticlib try'.split()
 MADE = 'target/'
+
+# Where a path may begin.
+FOLDERS = ['', 'crates/', 'crates/*/', 'crates/*/src/', 'crates/*/specs/', 'crates/*/specs/*/']
 
 
 # ---- what is there
@@ -47,8 +50,9 @@ MADE = 'target/'
 @functools.cache
 def modules():
     """Every path of a module, as crate::module."""
+    files = glob.glob('crates/*/src/**/*.rt', recursive=True)
     return {function.rsplit('::', 1)[0] for function in tree.functions()} | {
-        file[len('crates/'):-len('.rt')].replace('/src/', '::') for file in glob.glob('crates/*/src/**/*.rt', recursive=True)}
+        file[len('crates/'):-len('.rt')].replace('/src/', '::') for file in files}
 
 
 @functools.cache
@@ -76,9 +80,8 @@ def antt_names():
 
 @functools.cache
 def plain_names():
-    paths = [*tree.functions(), *modules()]
-    return set(tree.crates()) | {part for path in paths for part in path.split('::')} | source_names() | antt_names() | set(
-        tree.edits())
+    paths = [*tree.crates(), *tree.functions(), *modules()]
+    return {part for path in paths for part in path.split('::')} | source_names() | antt_names() | set(tree.edits())
 
 
 def there(path):
@@ -86,10 +89,10 @@ def there(path):
     m = re.search(r'\{([^}]*)\}', path)
     if m:
         return all(there(path[:m.start()] + one + path[m.end():]) for one in m[1].split(','))
+    if path.startswith(MADE):
+        return True
     path = path.rstrip('/')
-    return path.startswith(MADE[:-1]) or any(
-        glob.glob(front + path + back) for front in ('', 'crates/', 'crates/*/', 'crates/*/src/', 'crates/*/specs/', 'crates/*/specs/*/')
-        for back in ('', '.antt'))
+    return any(glob.glob(folder + path + ending) for folder in FOLDERS for ending in ('', '.antt'))
 
 
 def command(words):
@@ -235,6 +238,14 @@ def wrong_lines(page, text):
             yield '%s: more than 120 characters: %s' % (page, line[:60])
 
 
+def wrong_words(texts):
+    """Words of the list above that no page needs."""
+    used = {' '.join(name.split()) for text in texts.values() for name in re.findall(r'`([^`]+)`', pages.flowing(text))}
+    inside = {part for name in used for part in re.split(r'[\s()]+', name)}
+    for word in sorted(WORDS - used - inside):
+        yield 'docs.py: no page has the word %s' % word
+
+
 def lacking(texts):
     for page, text in texts.items():
         yield from wrong_names(page, pages.flowing(text))
@@ -243,45 +254,55 @@ def lacking(texts):
         yield '%s: %s' % (PROMISES, why)
     yield from wrong_converse(texts)
     yield from wrong_decisions(texts)
+    yield from wrong_words(texts)
     yield from pages.differences(texts)
 
 
 # ---- this test, tried
 
-# What makes a page wrong: the page, a pattern, and what takes its place, once.
+# What makes a page wrong: the page, a pattern, what takes its place, once, and what must then be said.
 CHANGES = [
-    (PROMISES, r'^\| `words::.*\n', ''),
-    (PROMISES, r'^(\| `words::.*\n)', r'\1\1'),
-    (PROMISES, r'^\| `words::', '| `word::'),
-    (PROMISES, r'`([a-z-]+)-once`', r'`\1-onec`'),
-    (PROMISES, r'`shape-word-once`', '`class-word-once`'),
-    (PROMISES, r'^(\| `words::.*? \| .*? \| `)(\w+)`', r'\1not_\2`'),
-    (PROMISES, r'^(\| `words::.*? \| .*? \| `\w+`).*', r'\1 |'),
-    (PROMISES, r'^(\| `listing::.*? \| .*? \| `)\w+`', r'\1list_last_rise`'),
-    (PROMISES, r'exception: [^;|]*', 'exception: '),
-    (READING, r'Hooks/Rule: `hook-rule`', 'Hooks/Rule: `hook-rul`'),
-    (READING, r'Hooks/Rule: ', 'Hooks/Words: '),
-    (READING, r'`characters::character`', '`characters::charakter`'),
-    (READING, r'\.antt` \|', '.ant` |'),
-    (READING, r'\| (\d+) \|$', r'| 1\1 |'),
-    (READING, r'`Evaluation`', '`Evaluations`'),
-    ('docs/ARCHITECTURE.md', r'\| (\d+) \|', r'| 1\1 |'),
-    ('docs/ARCHITECTURE.md', r'`lines::strip`', '`lines::stripe`'),
-    ('docs/PROOF.md', r'`lowered-lowered`', '`lowered-lowering`'),
-    ('docs/CONTRIBUTING.md', r'`rt dev', '`rt deliver'),
-    (DECISIONS, r'^\*\*D2\. ', '**D1. '),
-    ('README.md', r'`window/zembrusha\.h`', '`window/zembrush.h`'),
+    (PROMISES, r'^\| `words::.*\n', '', 'has 0 rows'),
+    (PROMISES, r'^\| `words::.*\n', '', 'no page names the edit'),
+    (PROMISES, r'^(\| `words::.*\n)', r'\1\1', 'has 2 rows'),
+    (PROMISES, r'^\| `words::', '| `word::', 'is no public function'),
+    (PROMISES, r'`([a-z-]+)-once`', r'`\1-onec`', 'has no theorem'),
+    (PROMISES, r'`shape-word-once`', '`class-word-once`', 'is not about this function'),
+    (PROMISES, r'`shape-word-once`', 'proved', 'names no theorem'),
+    (PROMISES, r'^(\| `words::.*? \| .*? \| `)(\w+)`', r'\1not_\2`', 'words has no edit not_'),
+    (PROMISES, r'^(\| `words::.*? \| .*? \| `\w+`).*', r'\1 |', '1 edits, two wanted'),
+    (PROMISES, r'^(\| `listing::.*? \| .*? \| `)\w+`', r'\1list_last_rise`', 'listing has no edit list_last_rise'),
+    (PROMISES, r'exception: [^;|]*', 'exception: ', '0 edits, two wanted'),
+    (READING, r'Hooks/Rule: `hook-rule`', 'Hooks/Rule: `hook-rul`', 'Rule.antt has no hook-rul'),
+    (READING, r'Hooks/Rule: ', 'Hooks/Words: ', 'Words.antt has no hook-rule'),
+    (READING, r'`characters::character`', '`characters::charakter`', 'nothing is named characters::charakter'),
+    (READING, r'\.antt` \|', '.ant` |', 'nothing is named crates/'),
+    (READING, r'\| (\d+) \|$', r'| 1\1 |', 'the table "believed"'),
+    (READING, r'`Evaluation`', '', 'the table "more"'),
+    (READING, r'`minus_one_one_is_nothing`', '`minus_one_one_is_nought`', 'nothing is named minus_one'),
+    (READING, r'`sessiontests`', '`sessiontests', 'a backquote is open'),
+    (READING, r'^\| `crates/theory/specs/Hooks\.antt`.*\n', '', 'Hooks.antt is not listed'),
+    ('docs/ARCHITECTURE.md', r'\| (\d+) \|', r'| 1\1 |', 'the table "sizes"'),
+    ('docs/ARCHITECTURE.md', r'`lines::strip`', '`lines::stripe`', 'nothing is named lines::stripe'),
+    ('docs/PROOF.md', r'`lowered-lowered`', '`lowered-lowering`', 'Lowered.antt has no lowered-lowering'),
+    ('docs/CONTRIBUTING.md', r'`rt dev', '`rt deliver', 'nothing is named rt deliver'),
+    ('docs/CONTRIBUTING.md', r'\bdocs/PROMISES', 'docs/PROMISE', 'no file docs/PROMISE.md'),
+    (DECISIONS, r'^\*\*D2\. ', '**D1. ', 'D1 is there twice'),
+    (DECISIONS, r'^\*\*D2\. ', '**', 'no number'),
+    (DECISIONS, r'`answer-given`', '`answer-giving`', 'nothing is named answer-giving'),
+    ('README.md', r'`window/zembrusha\.h`', '`window/zembrush.h`', 'nothing is named window/zembrush.h'),
+    ('README.md', r'\n\n', ' (D0)\n\n', 'there is no decision D0'),
 ]
 
 
 def unnoticed(texts):
-    """The changes that make no page wrong, or that find nothing to change."""
-    for page, pattern, instead in CHANGES:
+    """The changes after which it is not said what must be said, or that find nothing to change."""
+    for page, pattern, instead, said in CHANGES:
         changed, count = re.subn(pattern, instead, texts[page], count=1, flags=re.M)
         if not count:
             yield 'docs.py: %s has no %s' % (page, pattern)
-        elif not any(True for _ in lacking({**texts, page: changed})):
-            yield 'docs.py: not noticed in %s: %s' % (page, pattern)
+        elif not any(said in line for line in lacking({**texts, page: changed})):
+            yield 'docs.py: %s with "%s" for "%s": it is not said "%s"' % (page, instead, pattern, said)
 
 
 def main():

@@ -134,7 +134,8 @@ def words_of(path, name):
 
 def words_of_theorems(text):
     """The words that the statements of the theorems use which a page names, and the definitions that it names."""
-    return {word for file, name in citations(flowing(text)) for path in cited_file(file) for word in words_of(path, name)}
+    cited = [(path, name) for file, name in citations(flowing(text)) for path in cited_file(file)]
+    return {word for path, name in cited for word in words_of(path, name)}
 
 
 def library(files):
@@ -174,7 +175,8 @@ def more_table(reading):
 
 
 def edits_table(_):
-    rows = [['`%s`' % edit, tree.purpose('theory', edit)] for edit, crates in tree.edits().items() if 'theory' in crates]
+    names = [edit for edit, crates in tree.edits().items() if 'theory' in crates]
+    rows = [['`%s`' % edit, tree.purpose('theory', edit)] for edit in names]
     return table(['edit of `theory`', 'what it says of itself'], rows)
 
 
@@ -185,8 +187,9 @@ def sizes_table(_):
         top = tree.lines_of(folder + 'specs/*.antt')
         private = tree.lines_of(folder + 'specs/Private/**/*.antt')
         counts = [
-            top, tree.lines_of(folder + 'specs/*/**/*.antt') - private, private, tree.lines_of(folder + 'proofs/**/*.antt'),
-            tree.lines_of(folder + 'src/**/*.rt'), sum(crate in crates for crates in tree.edits().values())]
+            top, tree.lines_of(folder + 'specs/*/**/*.antt') - private, private,
+            tree.lines_of(folder + 'proofs/**/*.antt'), tree.lines_of(folder + 'src/**/*.rt'),
+            sum(crate in crates for crates in tree.edits().values())]
         rows.append(['`%s`' % crate] + [str(count) if count else '' for count in counts])
     totals = [str(sum(int(row[i] or 0) for row in rows)) for i in range(1, 7)]
     head = ['crate', 'definitions', 'their laws', 'private definitions', 'proofs of functions', 'code', 'edits']

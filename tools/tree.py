@@ -1,8 +1,8 @@
 """tree.py: what the repository has by name: crates, functions and their promises, definitions and theorems, edits.
 tools/pages.py and tests/docs.py read it. It reads the layout that `rt fmt` gives, and is no parser of either language.
 
-    Item      a definition or theorem of an .antt file: its statement, its whole text, the words that a reader meets
-    Function  a function of a crate: its path, whether another crate can call it, its contract
+    Item      a definition or theorem of an .antt file: its statement and its whole text
+    Function  a function of a crate: its path, whether another crate can call it, its promise
 """
 import functools
 import glob
@@ -71,7 +71,7 @@ def without_comments(text):
     return re.sub(r'//[^\n]*', '', text)
 
 
-def functions_in(crate, path, file, reached):
+def functions_in(path, file, reached):
     """The functions of a file and of the modules that it names. `reached`: `pub mod` lines lead here."""
     text = without_comments(read(file))
     owners = [(m.start(), m[1]) for m in re.finditer(r'^impl(?:<[^>]*>)? (\w+)', text, re.M)]
@@ -91,7 +91,7 @@ def functions_in(crate, path, file, reached):
         folder = os.path.dirname(file) if os.path.basename(file) in ('lib.rt', 'main.rt') else file[:-len('.rt')]
         inner = '%s/%s.rt' % (folder, m[2])
         if os.path.exists(inner):
-            yield from functions_in(crate, path + [m[2]], inner, reached and bool(m[1]))
+            yield from functions_in(path + [m[2]], inner, reached and bool(m[1]))
 
 
 @functools.cache
@@ -102,7 +102,7 @@ def functions():
         for root in ('lib', 'main'):
             file = 'crates/%s/src/%s.rt' % (crate, root)
             if os.path.exists(file):
-                for function in functions_in(crate, [crate], file, root == 'lib'):
+                for function in functions_in([crate], file, root == 'lib'):
                     found[function.path] = function
     return found
 
@@ -121,6 +121,7 @@ class Item:
     statement: str     # its type, with the parameters of the modules around it
     text: str          # all of it
     inner: set = field(default_factory=set)      # fields and constructors
+    open: bool = True      # its type may go on
 
 
 def module_file(module):
@@ -130,10 +131,13 @@ def module_file(module):
     return m and 'crates/%s/%s/%s.antt' % (m[1], m[2], m[3].replace('.', '/'))
 
 
+USE = re.compile(r'^\s*(?:pub |ghost )*use ([^\s;{]+?)(?:\.\{([^}]*)\}| as (\S+?))?;?$', re.M)
+
+
 def imports(text):
     """What the `use` lines bring in: name here -> (module, name there). The name '*x' is a module called x."""
     found = {}
-    for module, names, alias in re.findall(r'^\s*(?:pub |ghost )*use ([^\s;{]+?)(?:\.\{([^}]*)\}| as (\S+?))?;?$', text, re.M):
+    for module, names, alias in USE.findall(text):
         if alias:
             found['*' + alias] = (module, None)
         for name in filter(None, (name.strip() for name in names.split(','))):
@@ -186,7 +190,6 @@ def module(path):
             name = m[3] or m[4]
             item = Item(name.split()[0], path, bool(m[2]) or bool(re.search(r'abbrev|unfoldable', m[1])),
                         scopes[-1][1] + ' ' + stripped, stripped)
-            item.open = True
             items[item.name] = item
         elif item:
             item.open = False
@@ -204,7 +207,8 @@ def antt_files():
 def words_in(text):
     """The words of a text, as names are used in it, but for those that it binds itself."""
     text = re.sub(r'--[^\n]*', ' ', text)
-    bound = {name for names in re.findall(r'[({]([^(){}:⌜]+) : |λ ([^.]*)\.', text) for name in ' '.join(names).split()}
+    binders = re.findall(r'[({]([^(){}:⌜]+) : |λ ([^.]*)\.', text)
+    bound = {name for names in binders for name in ' '.join(names).split()}
     for token in re.split(r'[\s(){};,"⌜⌝]+', text):
         token = token.strip('.')
         if token and token not in bound:

@@ -123,16 +123,20 @@ def named(name):
 
 # ---- what is wrong
 
+def names_in(text):
+    """What stands in backquotes in a page, paragraph by paragraph."""
+    return {' '.join(name.split()) for line in pages.flowing(text).splitlines() for name in re.findall(r'`([^`]+)`', line)}
+
+
 def wrong_names(page, text):
-    for line in text.splitlines():
+    for line in pages.flowing(text).splitlines():
         if line.count('`') % 2:
             yield '%s: a backquote is open: %s' % (page, line[:60])
-    for name in set(re.findall(r'`([^`]+)`', text)):
-        name = ' '.join(name.split())
+    for name in names_in(text):
         cited = re.fullmatch(pages.CITED_FILE + r': (\S+)', name)
         if not cited and not named(name):
             yield '%s: nothing is named %s' % (page, name)
-    for file, name in set(pages.citations(text)) - {('X', 'name')}:
+    for file, name in set(pages.citations(pages.flowing(text))) - {('X', 'name')}:
         found = pages.cited_file(file)
         if len(found) != 1:
             yield '%s: %s is %s' % (page, file, 'no file' if not found else 'one of ' + ', '.join(found))
@@ -141,7 +145,7 @@ def wrong_names(page, text):
             if name not in items and not any(name in item.inner for item in items.values()):
                 yield '%s: %s has no %s' % (page, found[0], name)
     for path in set(re.findall(r'(?<![\w/`.])((?:docs|tests|tools|window|crates|bench|\.ci)/[\w./-]*\w)', text)):
-        if not there(path) and path not in WORDS:
+        if not there(path):
             yield '%s: no file %s' % (page, path)
 
 
@@ -210,7 +214,7 @@ def wrong_promises(text):
 
 
 def wrong_converse(texts):
-    both = set(re.findall(r'`([^`]+)`', texts[PROMISES] + texts[READING]))
+    both = names_in(texts[PROMISES]) | names_in(texts[READING])
     for edit, crates in tree.edits().items():
         if edit not in both:
             yield 'no page names the edit %s of %s' % (edit, ', '.join(crates))
@@ -240,7 +244,7 @@ def wrong_lines(page, text):
 
 def wrong_words(texts):
     """Words of the list above that no page needs."""
-    used = {' '.join(name.split()) for text in texts.values() for name in re.findall(r'`([^`]+)`', pages.flowing(text))}
+    used = {name for text in texts.values() for name in names_in(text)}
     inside = {part for name in used for part in re.split(r'[\s()]+', name)}
     for word in sorted(WORDS - used - inside):
         yield 'docs.py: no page has the word %s' % word
@@ -248,7 +252,7 @@ def wrong_words(texts):
 
 def lacking(texts):
     for page, text in texts.items():
-        yield from wrong_names(page, pages.flowing(text))
+        yield from wrong_names(page, text)
         yield from wrong_lines(page, text)
     for why in wrong_promises(texts[PROMISES]):
         yield '%s: %s' % (PROMISES, why)
@@ -291,6 +295,7 @@ CHANGES = [
     (DECISIONS, r'^\*\*D2\. ', '**', 'no number'),
     (DECISIONS, r'`answer-given`', '`answer-giving`', 'nothing is named answer-giving'),
     ('README.md', r'`window/zembrusha\.h`', '`window/zembrush.h`', 'nothing is named window/zembrush.h'),
+    ('README.md', r'^    window/start', '    window/begin', 'no file window/begin'),
     ('README.md', r'\n\n', ' (D0)\n\n', 'there is no decision D0'),
 ]
 

@@ -225,7 +225,8 @@ def write(page, text):
 def main():
     if sys.argv[1:] == ['--check']:
         lacking = list(differences({page: tree.read(page) for page, _ in TABLES.values()}))
-        print('\n'.join(lacking))
+        for line in lacking:
+            print(line)
         sys.exit(1 if lacking else 0)
     if sys.argv[1:] == ['--speed']:
         said = 'Printed by `bench/run` on %s:\n\n```text\n%s```' % (datetime.date.today(), sys.stdin.read())

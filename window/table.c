@@ -1,11 +1,24 @@
-/* table.c: the character table, laid out in columns. */
+/* table.c: single characters, and the character table, laid out in columns. */
 #include <inttypes.h>
 #include <stdio.h>
 #include <string.h>
 
 #include "partitions.h"
+#include "refusals.h"
 #include "table.h"
 #include "zembrusha.h"
+
+/* The refusal is asked for first: a refused character is 0, as many others are. */
+void show_character(uint32_t shape, uint32_t class)
+{
+    uint32_t refused = zembrusha_character_refusal(shape, class);
+    if (refused != 0) {
+        refuse(refused);
+        return;
+    }
+    printf("the character of %s on %s is %" PRId64 "\n", shape_text(shape).text, class_text(class).text,
+           zembrusha_character(shape, class));
+}
 
 /* How a table is laid out: the width of the classes, of their sizes, and of the column of each shape. */
 struct layout {

@@ -44,6 +44,18 @@ static void run_open(struct session *session, char **arguments)
     }
 }
 
+/* Shows a single character, where both partitions are read. */
+static void run_character(struct session *session, char **arguments)
+{
+    uint32_t shape = 0;
+    uint32_t class = 0;
+    (void)session;
+    if (read_partition(arguments[0], zembrusha_shape_word, &shape)
+        && read_partition(arguments[1], zembrusha_class_word, &class)) {
+        show_character(shape, class);
+    }
+}
+
 /* Strikes a cycle from a line, where both numbers are read. */
 static void run_strike(struct session *session, char **arguments)
 {
@@ -79,6 +91,7 @@ static const struct command COMMANDS[] = {
     {"strike", 2, run_strike, SHOW_SESSION, "strike LINE CYCLE", "strikes a cycle from a waiting line, as strike 0 3"},
     {"lines", 0, NULL, SHOW_SESSION, "lines", "shows the session and its waiting lines"},
     {"watch", 0, NULL, SHOW_WATCHED, "watch", "shows them with signed characters, ratios and sums"},
+    {"character", 2, run_character, SHOW_SESSION, "character SHAPE CLASS", "shows one character, as character 3,2 5"},
     {"table", 1, run_table, SHOW_SESSION, "table N", "shows the character table of degree N, a row to a class"},
     {"help", 0, run_help, SHOW_SESSION, "help", "shows this"},
     {"quit", 0, NULL, QUIT, "quit", "ends"},
@@ -92,7 +105,7 @@ static void run_help(struct session *session, char **arguments)
     (void)session;
     (void)arguments;
     for (size_t i = 0; i < COMMAND_COUNT; i++) {
-        printf("%-20s%s\n", COMMANDS[i].form, COMMANDS[i].purpose);
+        printf("%-23s%s\n", COMMANDS[i].form, COMMANDS[i].purpose);
     }
     printf("SHAPE and CLASS are parts, longest first, or words, as 0x2C000000; the empty partition is 0x0.\n");
     printf("LINE is the number of a waiting line, from 0; CYCLE is one of the numbers shown after strike.\n");

@@ -83,14 +83,14 @@ fn whole_tables(gap: &[Vec<String>], symmetrica: &[Vec<String>]) {
         let name = degree.to_string();
         let (gap, symmetrica) = (found(gap, &[&name], 0), found(symmetrica, &["table", &name], 0));
         println!(
-            "degree {degree:>2}     {:>9.1} us {:>12.0} us ({:>5.1}) {:>12.0} us ({:>5.1}) {:>12.1} us ({:>4.2})",
+            "degree {degree:>2}     {:>9.1} µs {:>12.0} µs ({:>5.1}) {:>12.0} µs ({:>5.1}) {:>12.1} µs ({:>4.2})",
             library / 1e3, gap / 1e3, gap / library, symmetrica / 1e3, symmetrica / library, twin / 1e3, library / twin
         );
     }
 }
 
 fn single_characters(symmetrica: &[Vec<String>]) {
-    println!("single character   mean           worst          Symmetrica mean (ratio)    worst (ratio)");
+    println!("single character   average        worst          Symmetrica average (ratio) worst (ratio)");
     for degree in [12u32, 14] {
         let all = partitions(degree, degree);
         let shapes: Vec<u32> = all.iter().map(|parts| shape_word(parts)).collect();
@@ -109,7 +109,7 @@ fn single_characters(symmetrica: &[Vec<String>]) {
         let theirs = found(symmetrica, &["single", &name], 0);
         let their_worst = found(symmetrica, &["single", &name], 1);
         println!(
-            "degree {degree:>2}     {:>9.2} us {:>12.1} us {:>12.2} us ({:>5.1}) {:>14.0} us ({:>5.1})",
+            "degree {degree:>2}     {:>9.2} µs {:>12.1} µs {:>12.2} µs ({:>5.1}) {:>14.0} µs ({:>5.1})",
             mean / 1e3, worst / 1e3, theirs / 1e3, theirs / mean, their_worst / 1e3, their_worst / worst
         );
     }

@@ -113,7 +113,7 @@ fn class_left(slip: Slip, page: &[u64], line: usize, cycle: u64) -> ClassLeft
     if refused != 0 {
         return ClassLeft { refused, class: 0 };
     }
-    if slip.lines <= line {
+    if slip.lines <= line { // no such line
         return ClassLeft {
             refused: 8,
             class: 0,

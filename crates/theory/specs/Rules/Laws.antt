@@ -11,7 +11,7 @@ use Rattle.theory.specs.Character.Terms.{value-turn, Holds, holds-map, h
 use Rattle.theory.specs.Character.Terms.{then-turn, then-then, sink-cases}
 use Rattle.theory.specs.Character.Alternating.{here, Alternating, ZeroBelow, raisedBy, swap-at, twice-zero}
 use Rattle.theory.specs.Character.Betas.{betas, betas-append}
-use Rattle.theory.specs.Rules.{Descending, Comes, in-order, by-rule-1, by-rule-2, by-rule-3}
+use Rattle.theory.specs.Rules.{Descending, in-order, by-rule-1, by-rule-2, by-rule-3, Comes, stopped, moved}
 use Rattle.theory.specs.Rules.InOrder.{InOrder, ordered-descending}
 
 -- ---- the definition follows the rules
@@ -35,9 +35,9 @@ sink-comes p a (b ∷ bs) g h = go (sink-comes (p ++ (back ∷ [])) (a +ℤ pos 
         → Holds Ends (sink a (b ∷ bs)) → Comes (p ++ (a ∷ b ∷ bs)) (then g (sink a (b ∷ bs)))
     go rest = sink-cases (λ t. Holds Ends t → Comes (p ++ (a ∷ b ∷ bs)) (then g t)) a b bs
         (λ n e h. h)
-        (λ e h. rw (from-below a b 0 e) (by-rule-2 p a bs))
+        (λ e h. rw (from-below a b 0 e) (stopped (by-rule-2 p a bs)))
         (λ n e h. rw (then-turn g (before back deeper), then-then g (λ l. plus (back ∷ l)) deeper)
-        (by-rule-3 p a b bs n e (simp append-assoc at (rest (simp append-assoc
+        (moved (by-rule-3 p a b bs n e) (simp append-assoc at (rest (simp append-assoc
         (rw (holds-turn Ends (before back deeper), holds-then Ends (λ l. plus (back ∷ l)) deeper) at h))))))
 
 ordered-comes : (p l : List ℤ) (g : List ℤ → Term (List ℤ)) → Holds (λ s. Comes (p ++ s) (g s)) (ordered l)
@@ -69,8 +69,8 @@ rule-1-comes : (l : List ℤ) → Descending l → Comes l (rule-1 l)
 rule-1-comes l d = go (ending l d)
   where
     go : Ending l → Comes l (rule-1 l)
-    go (below p n e r) = rw (r, e) (by-rule-1 p n (subst Descending e d))
-    go (shape o r) = rw r (in-order l o)
+    go (below p n e r) = rw (r, e) (stopped (by-rule-1 p n (subst Descending e d)))
+    go (shape o r) = rw r (stopped (in-order l o))
 
 pub follows : (l : List ℤ) → Comes l (sorted l)
 follows l = ordered-comes [] l rule-1
@@ -78,20 +78,20 @@ follows l = ordered-comes [] l rule-1
 
 -- ---- what the rules keep
 pub comes-in-order : {l : List ℤ} {t : Term (List ℤ)} → Comes l t → Holds InOrder t
-comes-in-order (in-order l o) = o
-comes-in-order (by-rule-1 p n d) = tt
-comes-in-order (by-rule-2 p a q) = tt
-comes-in-order (by-rule-3 p a b q n {t = t} e r) = rw (holds-turn InOrder t) (comes-in-order r)
+comes-in-order (stopped (in-order l o)) = o
+comes-in-order (stopped (by-rule-1 p n d)) = tt
+comes-in-order (stopped (by-rule-2 p a q)) = tt
+comes-in-order (moved {t = t} m r) = rw (holds-turn InOrder t) (comes-in-order r)
 
 -- rule 1 finds a negative beta-number, rule 2 two alike, and rule 3 swaps two neighbours
 module _ (f : List ℤ → ℤ) (alternating : Alternating f) (below : ZeroBelow f) where
   pub comes-value : {l : List ℤ} {t : Term (List ℤ)} → Comes l t → value (λ s. f (betas s)) t ≡ f (betas l)
-  comes-value (in-order l o) = refl
-  comes-value (by-rule-1 p n d) = sym (rw (betas-append p (negsuc n ∷ []), +ℤ-idr (negsuc n))
+  comes-value (stopped (in-order l o)) = refl
+  comes-value (stopped (by-rule-1 p n d)) = sym (rw (betas-append p (negsuc n ∷ []), +ℤ-idr (negsuc n))
       (below (raisedBy 1 (betas p)) n []))
-  comes-value (by-rule-2 p a q) = sym (rw (betas-append p (a ∷ (a +ℤ pos 1) ∷ q), more-one a (length q))
+  comes-value (stopped (by-rule-2 p a q)) = sym (rw (betas-append p (a ∷ (a +ℤ pos 1) ∷ q), more-one a (length q))
       (twice-zero f alternating (raisedBy (suc (suc (length q))) (betas p)) (a +ℤ pos (suc (length q))) (betas q)))
-  comes-value (by-rule-3 p a b q n {t = t} e r) =
+  comes-value (moved {t = t} (by-rule-3 p a b q n e) r) =
       rw (
         value-turn (λ s. f (betas s)) t,
         comes-value r,

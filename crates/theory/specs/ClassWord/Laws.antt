@@ -8,12 +8,14 @@ use native.Mathlib.Nat.{zero-add, add-zero, add-suc, suc-add}
 use native.Mathlib.Omega.{arith}
 use borrow.Author.Tests.{ltb-true, lt-ltb, le-ltb}
 use lib.Pow.{pow-pos, pow-mono}
-use Rattle.theory.specs.Basics.{true, false, [], _∷_, _++_, replicate, length, ℕ, zero, suc, _+_, _-_, _^_, _<?_}
+use Rattle.theory.specs.Basics.{true, false, not, _&&_, [], _∷_, _++_, replicate, length, ℕ, zero, suc, _+_}
+use Rattle.theory.specs.Basics.{_-_, _^_, _<?_}
 use Rattle.theory.specs.Basics.Laws.{both}
 use Rattle.theory.specs.Partition.{Parts, isPartition, degree, times, without}
 use Rattle.theory.specs.Partition.Laws.{NoZero, none, some, no-zero, without-partition, without-degree}
-use Rattle.theory.specs.Digits.{Digits, digits, word, width}
-use Rattle.theory.specs.Digits.Laws.{digits-zero, digits-one, length-digits, word-below, word-none, word-digits}
+use Rattle.theory.specs.Digits.{Digits, bit, digits, word, width}
+use Rattle.theory.specs.Digits.Laws.{digits-zero, digits-one, top-bit, length-digits, word-below, word-none}
+use Rattle.theory.specs.Digits.Laws.{word-digits}
 use Rattle.theory.specs.ClassWord.{classDigits, partsAfter, classWord, classOf, goodClass}
 
 -- ---- what the first part gives to the word
@@ -101,6 +103,10 @@ good-of-below w h = rw (lt-ltb w (2 ^ width) h)
 
 pub bad-above : (w : ℕ) → 2 ^ width ≤ w → goodClass w ≡ false
 bad-above w l = rw (le-ltb w (2 ^ width) l)
+
+-- of a word of 32 bits: bit 31 is 0, and no part rises
+pub good-by-bit-31 : (w : ℕ) → w < 2 ^ 32 → goodClass w ≡ (not (bit 31 w) && isPartition (classOf w))
+good-by-bit-31 w h = ap (λ t. t && isPartition (classOf w)) (top-bit width w h)
 
 pub class-held : {w : ℕ} → GoodClass w → Held (classOf w)
 class-held {w} g = record {

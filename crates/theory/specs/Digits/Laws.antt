@@ -8,8 +8,10 @@ use native.Mathlib.Decide.{decLt}
 use native.Mathlib.Numerals.{add-one}
 use native.Mathlib.Omega.{arith}
 use lib.Dec.{eqb}
+use borrow.Author.Tests.{lt-ltb, le-ltb}
 use lib.Pow.{pow-pos, pow-lt, high, low, field, mod-mod-pow}
-use Rattle.theory.specs.Basics.{true, false, [], _∷_, ℕ, zero, suc, _+_, _-_, _*_, _/_, _%_, _^_, length}
+use Rattle.theory.specs.Basics.{true, false, not, [], _∷_, ℕ, zero, suc, _+_, _-_, _*_, _/_, _%_, _^_, _<?_}
+use Rattle.theory.specs.Basics.{length}
 use Rattle.theory.specs.Digits.{Digits, bit, digits, word}
 
 unfoldable pub filled : ℕ → Digits → Digits
@@ -50,6 +52,16 @@ digits-one n r h =
     let e : 2 ^ n + r ≡ 1 * 2 ^ n + r = omega arith in
     let d : digits n (1 * 2 ^ n + r) ≡ digits n r = sym (digits-rest n (1 * 2 ^ n + r)) ∙ ap (digits n) (low 1 n h) in
     rw (e, high 1 n h, d)
+
+-- of n + 1 bits, bit n is the highest: it is 0 exactly below 2 ^ n
+pub top-bit : (n x : ℕ) → x < 2 ^ suc n → x <? 2 ^ n ≡ not (bit n x)
+top-bit n x h = elim (decLt x (2 ^ n)) [
+  | yes l ↦ rw (lt-ltb x (2 ^ n) l, div-eq-of-lt l)
+  | no g ↦
+      let e : x ≡ 1 * 2 ^ n + (x - 2 ^ n) = omega arith in
+      let d : x / 2 ^ n ≡ 1 = ap (λ (y : ℕ). y / 2 ^ n) e ∙ high 1 n {lo = x - 2 ^ n} (omega arith) in
+      rw (le-ltb x (2 ^ n) (omega arith), d)
+]
 
 pub length-digits : (n x : ℕ) → length (digits n x) ≡ n
 unfolding digits

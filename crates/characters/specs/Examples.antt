@@ -5,8 +5,8 @@
 use mathlib.Core.Path.{_≡_}
 use Rattle.theory.specs.Basics.{List, [], _∷_, replicate, ℕ, ℤ, pos, negsuc}
 use Rattle.theory.specs.Character.{_on_}
-use Rattle.theory.specs.ShapeWord.{shapeWord}
-use Rattle.theory.specs.ClassWord.{classWord}
+use Rattle.theory.specs.ShapeWord.{shapeWord, shapeOf}
+use Rattle.theory.specs.ClassWord.{classWord, classOf}
 use Rattle.theory.specs.Refusals.{firstOf, shapeChecks, classChecks}
 use Rattle.theory.specs.Limits.{degreeLimit}
 use Rattle.characters.specs.Page.{slipOf, handed, Handed}
@@ -34,8 +34,10 @@ pub record Examples : Type 0 where
   pub E2 : shapeWord (16 ∷ []) ≡ 0x3FFFC000
   pub E3 : shapeWord (replicate 16 1) ≡ 0x00004000
   pub E4 : firstOf (shapeChecks degreeLimit 0x3FFFE000) ∷ firstOf (shapeChecks degreeLimit 0x40000000) ∷ [] ≡ 2 ∷ 1 ∷ []
+  pub E4-row : shapeOf 0x3FFFE000 ≡ 17 ∷ []
   pub E5 : classWord (5 ∷ 2 ∷ 2 ∷ 1 ∷ 1 ∷ 1 ∷ []) ≡ 0x05780000
   pub E6 : firstOf (classChecks degreeLimit 0x50000000) ∷ firstOf (classChecks degreeLimit 0x00004000) ∷ [] ≡ 3 ∷ 4 ∷ []
+  pub E6-parts : classOf 0x50000000 ≡ 1 ∷ 2 ∷ []
   pub E7 : parts-3-2 on parts-3-2 ≡ pos 1
   pub E8 : parts-3-2 on (4 ∷ 1 ∷ []) ≡ negsuc 0
   pub E9 : parts-3-2 on (5 ∷ []) ≡ pos 0

@@ -16,6 +16,7 @@ use Rattle.characters.specs.Step.{step}
 use Rattle.characters.specs.Watch.{reads, watch}
 pub mod Kept
 pub mod Demand3
+pub mod Always
 pub mod Requests
 
 pub data Call : Type 0 where

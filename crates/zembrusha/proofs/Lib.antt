@@ -1,2 +1,3 @@
 pub mod Unique
+pub mod Session
 pub mod HandedOn

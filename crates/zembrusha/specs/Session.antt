@@ -22,6 +22,7 @@ use Rattle.zembrusha.specs.declared.Slip.{Slip}
 use Rattle.zembrusha.specs.declared.Handed.{Handed}
 use Rattle.zembrusha.specs.Exports.{given, handedRun, number, fraction}
 pub mod Laws
+pub mod Always
 
 pub data Call : Type 0 where
   opened : (shape class : ℕ) → Handed → List ℕ → Call

@@ -1,4 +1,5 @@
--- Demand 3 at every point of a session, not only at its end: a run splits wherever its calls are cut in two.
+-- Demand 3 at every point of a session, not only at its end: a run splits wherever its calls are cut in two. There is
+-- one such slip and page only (Requests.antt: `one-session`).
 --   Between s p before after t q   slip and page between the calls: `before` leads to them, and `after` from there on
 --   Halfway ..                     the same in a session: so far it is a session itself, of which demand 3 is true
 use mathlib.Core.Path.{refl}
@@ -14,19 +15,27 @@ module _ (limit : ℕ) where
     pub so-far : Run limit s p before slip page
     pub goes-on : Run limit slip page after t q
 
+  -- one more call in front
+  further : {s s′ t : Slip} {p p′ q : List ℕ} {before after : List Call} {call : Call}
+      → ((u : Slip) (r : List ℕ) → Run limit s′ p′ before u r → Run limit s p (call ∷ before) u r)
+      → Between s′ p′ before after t q → Between s p (call ∷ before) after t q
+  further add b = record {
+    slip = b .slip;
+    page = b .page;
+    so-far = add (b .slip) (b .page) (b .so-far);
+    goes-on = b .goes-on;
+  }
+
   pub run-splits : (s : Slip) (p : List ℕ) (before after : List Call) (t : Slip) (q : List ℕ)
       → Run limit s p (before ++ after) t q → Between s p before after t q
   unfolding Run
   run-splits s p [] after t q r = record { slip = s; page = p; so-far = (refl, refl); goes-on = r }
   run-splits s p (opened shape class a p′ ∷ before) after t q r =
-      let b = run-splits s p′ before after t q (r .2) in
-      record { slip = b .slip; page = b .page; so-far = (r .0, r .1, b .so-far); goes-on = b .goes-on }
+      further (λ u x b. (r .0, r .1, b)) (run-splits s p′ before after t q (r .2))
   run-splits s p (stepped line cycle a p′ ∷ before) after t q r =
-      let b = run-splits (a .slip) p′ before after t q (r .1) in
-      record { slip = b .slip; page = b .page; so-far = (r .0, b .so-far); goes-on = b .goes-on }
+      further (λ u x b. (r .0, b)) (run-splits (a .slip) p′ before after t q (r .1))
   run-splits s p (watched kind line a ∷ before) after t q r =
-      let b = run-splits s p before after t q (r .1) in
-      record { slip = b .slip; page = b .page; so-far = (r .0, b .so-far); goes-on = b .goes-on }
+      further (λ u x b. (r .0, b)) (run-splits s p before after t q (r .1))
 
 module _ (limit shape class : ℕ) (p : List ℕ) (before after : List Call) (t : Slip) (q : List ℕ) where
   pub record Halfway : Type 0 where

@@ -2,10 +2,10 @@
 -- watches and refused openings, each meeting its contract, the latest slip and page handed on.
 --   Call                a call of an export: its arguments, its answer, and the page as it returned
 --   Run s p calls t q   from slip s and page p the calls lead to slip t and page q
---   Session ..          an accepted `zembrusha_open` of a shape on a class, on the page p, and a run from there to t and q
+--   Session ..          an accepted `zembrusha_open` of a shape on a class, on the page p, and a run from there to t, q
 --   taken answer        the calculator's answer that was handed over as this one
---   Alike call theirs   the calculator's call `theirs` asks and answers what the exported call does; of a watch's answer
---                       an export gives one part, the whole number, the ratio or the refusal number
+--   Alike call theirs   the calculator's call `theirs` asks and answers what the exported call does; of a watch's
+--                       answer an export gives one part: the whole number, the ratio or the refusal number
 --   Same calls theirs   the same, call by call
 use mathlib.Core.Path.{_≡_}
 use lib.Ieee.{Float}
@@ -31,6 +31,7 @@ pub data Call : Type 0 where
   watched-ratio : (kind line : ℕ) → Float → Call
   watched-refusal : (kind line : ℕ) → ℕ → Call
 
+-- a refused opening's blank slip is laid aside
 unfoldable pub Run : Slip → List ℕ → List Call → Slip → List ℕ → Type 0
 Run s p [] t q = (t ≡ s) × (q ≡ p)
 Run s p (opened shape class a p′ ∷ calls) t q =

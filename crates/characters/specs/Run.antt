@@ -1,5 +1,5 @@
--- Runs (document 01, "What the contracts have to say", demand 3): after an accepted opening any steps, watches and
--- refused openings, each meeting its promise, the latest slip and page handed on.
+-- Runs (demand 3, cited in document 01, "What the contracts have to say"): after an accepted opening any steps, watches
+-- and refused openings, each meeting its promise, the latest slip and page handed on.
 --   Call                  a call: its arguments, its answer, and the page as it returned
 --   Run s p calls t q     from slip s and page p the calls lead to slip t and page q
 --   Session ..            an accepted opening of a shape on a class, on the page p, and a run from there to t and q

@@ -1,4 +1,4 @@
--- The limits (document 01). Definitions and laws take the limit on degrees as an argument; promises fix it.
+-- The limits (document 01). Definitions and most laws take the limit on degrees as an argument; promises fix it.
 --   degreeLimit   16: the greatest degree of a shape or a class
 --   pageLimit     4,096: the most words of a page
 use Rattle.theory.specs.Basics.{ℕ}

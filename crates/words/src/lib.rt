@@ -1,4 +1,4 @@
-// Partitions as words of 32 bits: part lists and words turned into each other by Comet's two methods, and what a word
+// Partitions as words of 32 bits: part lists and words turned into each other by Comét's two methods, and what a word
 // tells. Every call takes every input; a refused word or number is 0, and a refused call writes nothing.
 
 ghost use mathlib.Core.Path.{_≡_};

@@ -2,7 +2,7 @@
 use testing::numbers::natural;
 use testing::numbers::times;
 
-// What is counted from the parts: whether evenly many are even, and the product of the different ones.
+// What is counted from the parts: whether the number of even ones is even, and the product of the different ones.
 pub struct Counted {
     plus: bool,
     product: u64,

@@ -1,5 +1,5 @@
--- Sessions as C makes them (document 01, demand 3, through the exports): after an accepted opening any exported steps,
--- watches and refused openings, each meeting its contract, the latest slip and page handed on.
+-- Sessions as C makes them (demand 3, through the exports): after an accepted opening any exported steps, watches and
+-- refused openings, each meeting its contract, the latest slip and page handed on.
 --   Call                a call of an export: its arguments, its answer, and the page as it returned
 --   Run s p calls t q   from slip s and page p the calls lead to slip t and page q
 --   Session ..          an accepted `zembrusha_open` of a shape on a class, on the page p, and a run from there to t, q
@@ -22,7 +22,6 @@ use Rattle.zembrusha.specs.declared.Slip.{Slip}
 use Rattle.zembrusha.specs.declared.Handed.{Handed}
 use Rattle.zembrusha.specs.Exports.{given, handedRun, number, fraction}
 pub mod Laws
-pub mod Always
 
 pub data Call : Type 0 where
   opened : (shape class : ℕ) → Handed → List ℕ → Call

@@ -1,4 +1,4 @@
--- Demand 3 (document 01, "What the contracts have to say"): what is true of every session, whatever was called in it.
+-- Demand 3 (docs/READING.md has it in words): what is true of every session, whatever was called in it.
 --   Demand3 ..   of a session that opened a shape on a class on the page p, made these calls and ended at t and q
 use mathlib.Core.Path.{_≡_, sym, _∙_, ap}
 use Prim.Native.Nat.{_≤_}

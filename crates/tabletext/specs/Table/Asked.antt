@@ -86,7 +86,7 @@ module _ (limit : ℕ) (input : Text) where
     unfolding chartable
     asks-for h = rw (e, le-ltb limit n h)
 
--- ---- a long input asks for nothing, and its first 64 bytes neither
+-- ---- a long input asks for nothing, and nor do its first 64 bytes
 long-asks-nothing : (input : Text) → 10 < length input → asked input ≡ []
 long-asks-nothing input h =
     ⊎-elim (λ e. e) (λ w. absurd (omega (arith, asking-short (w .0) (w .1), ap length (w .2)))) (one-or-none input)

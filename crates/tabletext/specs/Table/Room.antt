@@ -1,5 +1,6 @@
 -- The program's text has room: there are at most `mostPartitions` classes and as many values to a class, and no value
--- has more than 14 digits, since none exceeds 16! in size. Of the other numbers 20 digits are enough to know.
+-- has more than 14 digits, since none exceeds 16! in size. Of the other numbers it is enough that they have at
+-- most 20 digits.
 --   room             how many bytes the program has
 use mathlib.Core.Path.{_≡_, refl, sym, _∙_, ap}
 use Prim.Native.Nat.{_≤_, _<_}

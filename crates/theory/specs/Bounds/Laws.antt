@@ -1,6 +1,6 @@
 -- Laws of sizes, and of the bounds: they rise with the degree, and what a line needs, the lines that its hooks leave
 -- can share. A line of degree d has k hooks of a length h, k at most d, and each leaves a line of degree d - h.
---   largestLimit   20: the greatest limit on degrees that laws allow
+--   largestLimit   20: the greatest limit on degrees at which numbers still have room in 64 bits, as laws ask
 use mathlib.Core.Path.{_≡_, refl}
 use Prim.Native.Nat.{_≤_, zero-le}
 use native.Mathlib.Nat.{le-refl, le-trans, mul-le-mul}

@@ -104,7 +104,7 @@ lowered-zero-below m f z (x ∷ p) n q = rw (
   lowered-zero-below m (λ t. f (x ∷ t)) (λ p n q. z (x ∷ p) n q) p n q,
 )
 
--- of two functions f and g, since f behind x + 1 answers to g behind x
+-- of two functions f and g, for f with x + 1 in front stands to g with x in front as f does to g
 pub lowered-stable : (m : ℕ) (f g : List ℤ → ℤ) → ZeroBelow f → ((t : List ℤ) → f (raised t) ≡ g t) → (l : List ℤ)
     → lowered (suc m) f (raised l) ≡ lowered (suc m) g l
 lowered-stable m f g z s [] =

@@ -1,7 +1,7 @@
 -- Class words, there and back: one word to a partition, and one partition to a word (document 01, "Class word").
 --   Held ps       ps is a partition whose digits have room in a word: its degree is at most 31
 --   GoodClass w   w is a good class word, as a record
---   OneToOne      held partitions and good class words answer to each other, one to one
+--   OneToOne      held partitions and good class words correspond one to one
 use mathlib.Core.Path.{_≡_, refl, sym, _∙_, ap}
 use Prim.Native.Nat.{_≤_, _<_}
 use native.Mathlib.Nat.{zero-add, add-zero, add-suc, suc-add}

@@ -17,8 +17,8 @@ type Run = fn(&Characters, &mut Group);
 
 const GROUPS: [(&str, Run); 9] = [
     ("examples", groups::examples::run),
-    ("pairs to degree 10", groups::pairs::to_degree_10),
-    ("pairs of degrees 11 to 16", groups::pairs::of_degrees_11_to_16),
+    ("every shape on every class", groups::pairs::run),
+    ("sessions to their ends", groups::ends::run),
     ("columns", groups::columns::run),
     ("formulas (6) and (10)", groups::formulas::run),
     ("part lists", groups::lists::run),
@@ -34,10 +34,10 @@ fn compare(chosen: &[(&'static str, Run)]) -> bool {
         let start = |&(name, run): &(&'static str, Run)| {
             scope.spawn(move || Group::compared(name, |group| run(characters, group)))
         };
-        let started: Vec<_> = chosen.iter().map(start).collect();
+        let started: Vec<_> = chosen.iter().map(|one| (one.0, start(one))).collect();
         let mut agreed = true;
-        for group in started {
-            agreed &= group.join().is_ok_and(|group| group.close());
+        for (name, group) in started {
+            agreed &= group.join().map_or_else(|_| report::stopped(name), Group::close);
         }
         agreed
     })

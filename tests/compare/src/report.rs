@@ -36,11 +36,18 @@ impl Group {
         self.notes.push(note);
     }
 
-    /// Prints the group's line, and gives whether nothing differed.
+    /// Prints the group's line, and gives whether something was compared and nothing differed.
     pub fn close(self) -> bool {
-        let verdict = if self.differences == 0 { "ok" } else { "FAILED" };
+        let agreed = self.compared > 0 && self.differences == 0;
+        let verdict = if agreed { "ok" } else { "FAILED" };
         let notes: String = self.notes.iter().map(|note| format!(", {note}")).collect();
         println!("{verdict} compare {}: {} compared, {} differ{notes}", self.name, self.compared, self.differences);
-        self.differences == 0
+        agreed
     }
+}
+
+/// Prints the line of a group that did not come to its end: what the library answered was none of its answers.
+pub fn stopped(name: &str) -> bool {
+    println!("FAILED compare {name}: stopped before its end");
+    false
 }

@@ -2,6 +2,7 @@
 
 pub mod columns;
 mod draws;
+pub mod ends;
 pub mod examples;
 pub mod formulas;
 pub mod lists;

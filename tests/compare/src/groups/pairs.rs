@@ -1,44 +1,31 @@
-//! Single characters: every pair of shape and class up to degree 10, and pairs of degrees 11 to 16.
+//! Single characters: every shape on every class, both of all degrees from 0 to 16, each pair once.
 
-use super::draws::listed;
-use super::valued;
+use super::Tally;
 use crate::calls;
 use crate::model::characters::Characters;
-use crate::model::words::{pack_class, pack_shape, read_pair};
-use crate::random::Random;
+use crate::model::partitions::degree;
+use crate::model::words::{pack_class, pack_shape};
+use crate::model::Parts;
 use crate::report::Group;
 
-/// How many pairs of degrees 11 to 16 are compared.
-const SAMPLE: usize = 200_000;
+/// The degree up to which the refusal number of a pair of one degree is asked too, which costs as much as the value.
+const ASKED_TWICE: u32 = 10;
 
-/// Every shape on every class, also of another degree.
-pub fn to_degree_10(characters: &Characters, group: &mut Group) {
-    let all = || characters.listings[..=10].iter().flatten();
-    for shape in all().map(|rows| pack_shape(rows)) {
-        for class in all().map(|parts| pack_class(parts)) {
-            let model = read_pair(shape, class).map(|(rows, parts)| characters.character(&rows, &parts));
-            group.same(calls::character(shape, class), valued(model), || format!("{shape:#010x} on {class:#010x}"));
+pub fn run(characters: &Characters, group: &mut Group) {
+    let mut tally = Tally::default();
+    let all = || characters.listings.iter().flatten();
+    let classes: Vec<(u32, &Parts)> = all().map(|parts| (pack_class(parts), parts)).collect();
+    for (shape, rows) in all().map(|rows| (pack_shape(rows), rows)) {
+        for &(class, parts) in &classes {
+            let one_degree = degree(rows) == degree(parts);
+            let model = if one_degree { (characters.character(rows, parts), 0) } else { (0, 5) };
+            let answer = match one_degree && degree(rows) > ASKED_TWICE {
+                true => (calls::character_value(shape, class), 0),
+                false => calls::character(shape, class),
+            };
+            tally.count(model.1);
+            group.same(answer, model, || format!("{rows:?} on {parts:?}"));
         }
     }
-}
-
-/// Each pair of one degree once, and then further pairs at random, which come after others than their neighbours.
-pub fn of_degrees_11_to_16(characters: &Characters, group: &mut Group) {
-    let listings = &characters.listings[11..];
-    let mut compared = 0;
-    let mut compare = |rows: &[u8], parts: &[u8]| {
-        let (shape, class) = (pack_shape(rows), pack_class(parts));
-        let model = characters.character(rows, parts);
-        group.same(calls::character_value(shape, class), model, || format!("{rows:?} on {parts:?}"));
-        compared += 1;
-    };
-    for listing in listings {
-        listing.iter().for_each(|rows| listing.iter().for_each(|parts| compare(rows, parts)));
-    }
-    let mut random = Random(11);
-    for _ in listings.iter().map(|listing| listing.len().pow(2)).sum()..SAMPLE {
-        let listing = random.pick(listings);
-        compare(listed(&mut random, listing), listed(&mut random, listing));
-    }
-    group.same(compared, SAMPLE, || "the number of pairs".to_string());
+    group.note(tally.said());
 }

@@ -1,5 +1,6 @@
 //! Random sessions: 200,000 openings and steps over shapes of all degrees and pages of many lengths, with wrong lines,
-//! cycles, slips and pages among them. After each, slip, page and watches are compared, and the conserved sum.
+//! cycles, slips and pages among them. After each, slip, page and watches are compared; after each that is accepted,
+//! what the library shows as settled (3) and as waiting (4), added up, with the character that the session began with.
 
 use super::draws::{listed, random_parts, random_word};
 use super::made::{damaged, made_up, wrong_cycle, wrong_line};
@@ -8,8 +9,8 @@ use super::Tally;
 use crate::calls;
 use crate::lent::{leaves, Left};
 use crate::model::characters::Characters;
-use crate::model::sessions::{self, Line, Shown, Slip};
-use crate::model::words::{pack_class, pack_shape};
+use crate::model::sessions::{self, Shown, Slip};
+use crate::model::words::{pack_class, pack_shape, read_pair};
 use crate::model::Answer;
 use crate::random::Random;
 use crate::report::Group;
@@ -57,21 +58,33 @@ pub fn run(characters: &Characters, group: &mut Group) {
 impl Desk<'_> {
     /// One session, from an opening or from a sound page that no opening made, to its end or until it is laid aside.
     fn session(&mut self) {
-        let begun = if self.random.once_in(4) { Some(made_up(self.characters, &mut self.random)) } else { self.open() };
-        let Some(mut state) = begun else { return };
-        let total = self.watch(&state);
-        for _ in 0..1 + self.random.below(40) {
+        let begun = if self.random.once_in(4) { Some(self.made_up()) } else { self.open() };
+        let Some((mut state, total)) = begun else { return };
+        let mut left = 1 + self.random.below(40);
+        self.conserve(&state, total);
+        while self.watch(&state) && left > 0 {
             if self.calls == CALLS || state.0.lines == 0 && !self.random.once_in(4) {
                 return;
             }
-            state = self.call(&state).unwrap_or(state);
-            let sum = self.watch(&state);
-            self.group.same(sum, total, || format!("settled plus waiting of {:?}", state.0));
+            if let Some(next) = self.call(&state) {
+                state = next;
+                self.conserve(&state, total);
+            }
+            left -= 1;
         }
     }
 
-    /// An opening, in three cases of eight on words that need not be good; the state, where it is not refused.
-    fn open(&mut self) -> Option<State> {
+    /// A sound slip and page that no opening made, and what the model says that is settled and waits there.
+    fn made_up(&mut self) -> (State, i64) {
+        let (slip, page) = made_up(self.characters, &mut self.random);
+        let lines = sessions::sound(&slip, &page).unwrap();
+        let waiting: i64 = lines.iter().map(|line| line.character(self.characters)).sum();
+        ((slip, page), slip.settled + waiting)
+    }
+
+    /// An opening, in three cases of eight on words that need not be good; where it is not refused, the state and the
+    /// model's character of the two words.
+    fn open(&mut self) -> Option<(State, i64)> {
         let random = &mut self.random;
         let listing = random.pick(&self.characters.listings);
         let (mut shape, mut class) = (pack_shape(listed(random, listing)), pack_class(listed(random, listing)));
@@ -87,7 +100,9 @@ impl Desk<'_> {
         let words = *random.pick(&LENGTHS);
         let before: Vec<u64> = (0..words).map(|_| random.next()).collect();
         let model = sessions::open(shape, class, words);
-        self.hand(calls::open(shape, class, &before), Slip::default(), &before, model, "open")
+        let state = self.hand(calls::open(shape, class, &before), Slip::default(), &before, model, "open")?;
+        let (rows, parts) = read_pair(shape, class).unwrap();
+        Some((state, self.characters.character(&rows, &parts)))
     }
 
     /// A step on the state: a good one, one with a wrong line or cycle, or one on a damaged slip or page. What comes of
@@ -129,7 +144,8 @@ impl Desk<'_> {
         self.hand(calls::step(*slip, page, line, cycle), *slip, page, model, "step")
     }
 
-    /// Compares what an opening or a step hands back; when it is refused, that is this slip and the page as it was.
+    /// Compares what an opening or a step hands back; when it is refused, that is this slip and the page as it was. The
+    /// library's slip and page, where the model does not refuse.
     fn hand(
         &mut self,
         answer: Left<(u32, Slip), u64>,
@@ -145,12 +161,20 @@ impl Desk<'_> {
             Err(refused) => leaves((*refused, slip), page),
         };
         let number = self.calls;
+        let handed = model.is_ok().then(|| (answer.answer.1, answer.run.clone()));
         self.group.same(answer, expected, || format!("{what}, call {number}"));
-        model.ok()
+        handed
     }
 
-    /// Compares the watches of every kind, and of kinds that there are not; settled plus waiting, as the model has it.
-    fn watch(&mut self, state: &State) -> Option<i64> {
+    /// What the library shows as settled and as waiting is, added up, what the session began with.
+    fn conserve(&mut self, state: &State, total: i64) {
+        let (slip, page) = state;
+        let shown = |kind| calls::watch_whole(*slip, page, kind, 0).answer;
+        self.group.same(shown(3).wrapping_add(shown(4)), total, || format!("settled plus waiting of {slip:?}"));
+    }
+
+    /// Compares the watches of every kind, and of kinds that there are not; whether the model finds the state sound.
+    fn watch(&mut self, state: &State) -> bool {
         let (slip, page) = state;
         let lines = sessions::sound(slip, page);
         let wrong = *self.random.pick(&[0, 6, 7, 255, 257, 1 << 32, (1 << 32) + 1, u64::MAX]);
@@ -162,8 +186,7 @@ impl Desk<'_> {
                 self.compare_watch(slip, page, (kind, line), model);
             }
         }
-        let waiting = |lines: &Vec<Line>| lines.iter().map(|line| line.character(self.characters)).sum::<i64>();
-        lines.ok().map(|lines| slip.settled + waiting(&lines))
+        lines.is_ok()
     }
 
     fn compare_watch(&mut self, slip: &Slip, page: &[u64], (kind, line): (u64, u64), model: Answer<Shown>) {

@@ -1,7 +1,9 @@
 // A random call with its checks. The twin gets it after the run has had it: until then its page has the words that the
 // run's page had before.
 use super::drawing::PAGE;
+use super::drawing::Strike;
 use super::drawing::asked;
+use super::drawing::drawn;
 use super::drawing::make;
 use characters::Slip;
 use characters::Watched;
@@ -49,6 +51,33 @@ fn conserved(slip: Slip, page: &[u64; PAGE]) -> bool {
         == characters::character(slip.shape, slip.class).number
 }
 
+// One more than the lines that wait after a call that is accepted, counted here once more. An opening has a line, unless
+// it is of degree 0. A step loses one and gets one for each zero of the line's shape with a one `cycle` digits after it,
+// unless its class has that cycle alone, so that every hook leaves the empty shape.
+fn waiting(opens: bool, slip: Slip, strike: Strike, page: &[u64; PAGE]) -> usize {
+    if opens {
+        return std::num::wrapping_add_usize((slip.shape != 0) as usize, 1);
+    }
+    let line = strike.line;
+    let length = strike.cycle % 32;
+    let word = page[line % PAGE];
+    if word % 0x1_0000_0000 == 0x8000_0000 >> length {
+        return slip.lines;
+    }
+    let shape = (word >> 32) % 0x8000_0000;
+    let hooks = u64::count_ones((!shape & (shape << length)) % 0x8000_0000) % 32;
+    std::num::wrapping_add_usize(slip.lines, hooks as usize)
+}
+
+// Whether a call is refused by 10 exactly when more lines would wait than the page has words, and has so many where it
+// is accepted; `waits` is one more than they would be.
+fn has_room(refused: u8, lines: usize, waits: usize) -> bool {
+    let full = waits > PAGE + 1;
+    ((refused == 10) & full)
+        | ((refused == 0) & !full & (std::num::wrapping_add_usize(lines, 1) == waits))
+        | ((refused != 0) & (refused != 10))
+}
+
 // Where an opening or a step is counted that a number refused.
 fn place(opens: bool, refused: u8) -> usize {
     ((!opens as usize) << 4) | (refused as usize)
@@ -58,9 +87,11 @@ fn place(opens: bool, refused: u8) -> usize {
 pub fn call(run: Slip, word: u64, page: &mut [u64; PAGE], twin: &mut [u64; PAGE]) -> Found {
     let opens = (word % 16 == 0) | ((word % 16 < 12) & (run.lines == 0));
     let asked = asked(opens, run, word);
-    let handed = make(opens, asked, word, page);
+    let strike = drawn(asked, word, page);
+    let waits = waiting(opens, asked, strike, page);
+    let handed = make(opens, asked, strike, page);
     let stays = same(page, twin);
-    let other = make(opens, asked, word, twin);
+    let other = make(opens, asked, strike, twin);
     let refused = handed.refused;
     let slip = handed.slip;
     let twins = same(page, twin) & (refused == other.refused) & same_slip(slip, other.slip);
@@ -75,6 +106,7 @@ pub fn call(run: Slip, word: u64, page: &mut [u64; PAGE], twin: &mut [u64; PAGE]
         wrong: (!twins as usize)
             | ((!((refused == 0) | unchanged) as usize) << 1)
             | ((!((refused != 0) | counted) as usize) << 2)
-            | ((!conserved(next, page) as usize) << 3),
+            | ((!conserved(next, page) as usize) << 3)
+            | ((!has_room(refused, slip.lines, waits) as usize) << 4),
     }
 }

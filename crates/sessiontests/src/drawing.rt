@@ -59,14 +59,27 @@ pub fn asked(opens: bool, slip: Slip, word: u64) -> Slip {
     }
 }
 
-// Makes a call: an opening of the slip's words, or a step of it on a drawn line, mostly by the longest cycle of its
-// class, else by what is left of a cycle, with a bit turned now and then.
-pub fn make(opens: bool, slip: Slip, word: u64, page: &mut [u64; PAGE]) -> Handed {
+// A line, and a cycle to be struck from it.
+pub struct Strike {
+    pub line: usize,
+    pub cycle: u64,
+}
+
+// What a step strikes: a drawn line, mostly by the longest cycle of its class, else by what is left of a cycle, with a
+// bit turned now and then.
+pub fn drawn(slip: Slip, word: u64, page: &[u64; PAGE]) -> Strike {
+    let line = turned(below(word >> 8, slip.lines), word >> 20) as usize;
+    let class = page[line % PAGE] << (32 + ((word >> 28) & (word >> 32) & (word >> 36)) % 4);
+    Strike {
+        line,
+        cycle: turned(u64::leading_zeros(class), word >> 40) as u64,
+    }
+}
+
+// Makes a call: an opening of the slip's words, or a step of it.
+pub fn make(opens: bool, slip: Slip, strike: Strike, page: &mut [u64; PAGE]) -> Handed {
     if opens {
         return sessions::open(slip.shape, slip.class, page);
     }
-    let line = turned(below(word >> 8, slip.lines), word >> 20) as usize;
-    let class = page[line % PAGE] << (32 + ((word >> 28) & (word >> 32) & (word >> 36)) % 4);
-    let cycle = turned(u64::leading_zeros(class), word >> 40) as u64;
-    sessions::step(slip, page, line, cycle)
+    sessions::step(slip, page, strike.line, strike.cycle)
 }

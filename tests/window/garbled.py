@@ -16,6 +16,10 @@ ANSWERS = re.compile(rb'''refused\ [0-9]+:\ .*
     | (class|\([0-9,]*\))\ .*
     | (open|strike|lines|watch|table|help|quit|SHAPE|LINE)\ .*''', re.VERBOSE)
 
+# The last command, and its answer: what is read to the end is answered to the end.
+LAST = b'\nopen 1 1\n'
+LAST_ANSWER = b'(1) on (1): settled 0, steps 0 of at most 1\nline 0: + (1) on (1), strike 1\n'
+
 PARTITIONS = ['3,2', '2,2,1', '1,1,1,1,1', '4,1', '5', '0x2C000000', '0x14000000', '2,1', '1', '0x0', '6', '3,2,1']
 
 
@@ -44,9 +48,11 @@ def main():
         dice = random.Random(seed)
         script = b'\n'.join(line(dice) for _ in range(3000))
         script = re.sub(rb'(?m)^[ \t\r]*quit[ \t\r]*$', b'', script)
-        run = subprocess.run([program], input=script, capture_output=True, timeout=100)
+        run = subprocess.run([program], input=script + LAST, capture_output=True, timeout=100)
         if run.returncode != 0 or run.stderr:
             sys.exit(f'garbled: seed {seed} gives status {run.returncode}: {run.stderr[-2000:]}')
+        if not run.stdout.endswith(LAST_ANSWER):
+            sys.exit(f'garbled: seed {seed} is not read to its end: {run.stdout[-200:]!r}')
         for answer in run.stdout.splitlines():
             if not ANSWERS.fullmatch(answer):
                 sys.exit(f'garbled: seed {seed} is answered by {answer!r}')

@@ -1,7 +1,8 @@
 #!/usr/bin/env python3
 # model.py DEGREE: what chartable has to write, from permutation characters and orthogonality alone: no hooks, and
-# nothing of the rules of 1954. Made the files degree-N.txt:
-#     for n in 0 1 2 3 4 5 6; do ./model.py $n > degree-$n.txt; done
+# nothing of the rules of 1954. Made the files degree-N.txt, and SUMS, in some two minutes:
+#     for n in $(seq 0 6); do ./model.py $n > degree-$n.txt; done
+#     for n in $(seq 0 16); do ./model.py $n | sha256sum | sed "s/-/degree-$n.txt/"; done > SUMS
 import sys
 from collections import Counter
 from functools import lru_cache

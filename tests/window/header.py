@@ -18,6 +18,13 @@ STRUCTS = {
 }
 TYPES = NUMBERS | STRUCTS
 
+# The kinds of watches and the limits of document 01, as the header has to name them.
+KINDS = ['LINE_CHARACTER', 'LINE_RATIO', 'SETTLED', 'WAITING', 'STEPS']
+CONSTANTS = {
+    'kind': {name: number for number, name in enumerate(KINDS, 1)},
+    'limit': {'DEGREE_LIMIT': 16, 'PAGE_LIMIT': 4096, 'LONGEST_COLUMN': 231},
+}
+
 # What changes a header so that it no longer fits: a pattern and what takes its place, once.
 CHANGES = [
     (r'uint32_t shape, uint32_t class\)', 'uint32_t class, uint32_t shape)'),
@@ -130,6 +137,12 @@ def refusals(text):
     return [int(number) for number in re.findall(r'^    ZEMBRUSHA_\w+ = (\d+),? +/\* .+ \*/$', body, re.MULTILINE)]
 
 
+def constants(text, kind):
+    """The names and numbers of one of the header's enums."""
+    body = re.search(r'enum zembrusha_%s \{(.*?)\};' % kind, text, re.DOTALL)[1]
+    return {name: int(number) for name, number in re.findall(r'ZEMBRUSHA_(\w+) = (\d+)', body)}
+
+
 def faults(header, archive, rust, rattle):
     """Everything that does not fit, each as one line."""
     ours = c_surface(header)
@@ -140,6 +153,9 @@ def faults(header, archive, rust, rattle):
     yield from (f'no comment over {name}' for name in commented(header))
     if refusals(header) != list(range(16)):
         yield f'refusal numbers: {refusals(header)}'
+    for kind, named in CONSTANTS.items():
+        if constants(header, kind) != named:
+            yield f'enum {kind}: {constants(header, kind)}'
     for pattern, change in CHANGES:
         changed, count = re.subn(pattern, change, header, count=1)
         if count != 1 or not list(ours.differences(c_surface(changed))):

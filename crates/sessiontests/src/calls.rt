@@ -51,9 +51,9 @@ fn conserved(slip: Slip, page: &[u64; PAGE]) -> bool {
         == characters::character(slip.shape, slip.class).number
 }
 
-// One more than the lines that wait after a call that is accepted, counted here once more. An opening has a line, unless
-// it is of degree 0. A step loses one and gets one for each zero of the line's shape with a one `cycle` digits after it,
-// unless its class has that cycle alone, so that every hook leaves the empty shape.
+// One more than the lines that wait after an accepted call, counted without the library. An opening has a line, unless
+// it is of degree 0. A step loses one and gets one for each zero of its shape with a one `cycle` digits after it; none
+// where its class has that cycle alone, since every hook leaves the empty shape then.
 fn waiting(opens: bool, slip: Slip, strike: Strike, page: &[u64; PAGE]) -> usize {
     if opens {
         return std::num::wrapping_add_usize((slip.shape != 0) as usize, 1);
@@ -69,8 +69,8 @@ fn waiting(opens: bool, slip: Slip, strike: Strike, page: &[u64; PAGE]) -> usize
     std::num::wrapping_add_usize(slip.lines, hooks as usize)
 }
 
-// Whether a call is refused by 10 exactly when more lines would wait than the page has words, and has so many where it
-// is accepted; `waits` is one more than they would be.
+// Whether 10 is given exactly when more lines would wait than the page has words, and an accepted call has so many;
+// `waits` is one more than they would be. Other refusals come before 10 is judged.
 fn has_room(refused: u8, lines: usize, waits: usize) -> bool {
     let full = waits > PAGE + 1;
     ((refused == 10) & full)

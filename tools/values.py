@@ -7,17 +7,22 @@ class sizes (no hooks, and nothing of the rules of 1954), hooks as connected bor
 refusals, slips, pages and watches from the text of document 01. Each equation is a list of expressions over the
 definitions and the list of their values, proved by computation alone (`refl`).
 
-A copy of the four crates is made in a temporary folder, with one crate more for each notion (a function below that is
-marked @notion), and `rt` proves it all; what the repository has proved already is not proved again. At the end one
-value of each notion is changed at random, and the checker has to refuse each of these: so the comparison can fail.
+A copy of the four crates is made in a temporary folder, with crates beside them that have the equations, and `rt`
+proves these; what the repository has proved already is not proved again. Then some values of each notion are changed at
+random, one in an equation, and the checker has to refuse every such equation: so the comparison can fail.
 
-    tools/values.py               every notion for the degrees 0 to 8, some 5 minutes on two cores
-    tools/values.py --degree 9    further; some 12 minutes
-    tools/values.py --only step,watch --degree 5 --seed 7     some notions, other random cases
-    tools/values.py --keep DIR    leave the equations in DIR, to be read
+    python3 tools/values.py                  characters and watches up to degree 9; words, hooks, steps up to 16
+    python3 tools/values.py --degree 10      characters and watches further
+    python3 tools/values.py --only steps,watches --seed 7    some notions, other random cases
+    python3 tools/values.py --keep DIR       leave the equations in DIR, to be read
 
-It is run by hand, and is no part of the gate. The exit status is 0 only if every value agrees and every changed value
-is refused. Needs Python 3 and `rt`; run it in the repository. For a new definition, write one more @notion."""
+Without options it compares some 36,000 values of 1,700 equations, in 3 to 5 minutes on two busy cores (100 seconds of
+work for the checker), and longer where the four crates have to be proved first.
+
+It is run by hand, and is no part of the gate. The exit status is 0 only if every value agrees and every changed one is
+refused. It needs Python 3 and `rt`. For a new definition write one more function with @notion in front, which yields
+expressions and values; for a definition that changes, change the model. A value is what one expression asks for, but
+each entry of a column and each hook is one."""
 import argparse
 import os
 import random
@@ -31,7 +36,7 @@ import time
 from collections import Counter
 from functools import lru_cache
 from itertools import groupby
-from math import factorial
+from math import factorial, perm, prod
 
 CRATES = ['theory', 'words', 'listing', 'characters']
 LIMIT, PAGE = 16, 4096  # document 01: the largest degree, the longest page
@@ -96,12 +101,16 @@ def falls(parts):
 
 
 # ---- the model: characters and hooks
+@lru_cache(None)
 def class_size(c):
-    """The elements of a class: n! by p^t t! over each part length."""
-    size = factorial(sum(c))
-    for p, t in Counter(c).items():
-        size //= p**t * factorial(t)
-    return size
+    """How many permutations have these cycles: by the cycle that the first element is in, and those of the rest."""
+    rest = {p: c[:c.index(p)] + c[c.index(p) + 1:] for p in c}
+    return sum(perm(sum(c) - 1, p - 1) * class_size(rest[p]) for p in rest) if c else 1
+
+
+def period(c):
+    """The product of the different part lengths."""
+    return prod(set(c))
 
 
 @lru_cache(None)
@@ -275,7 +284,7 @@ def items(texts):
 def nats(ns):
     """A list of natural numbers; long runs of one number as such."""
     runs = [(k, len(list(g))) for k, g in groupby(ns)]
-    if len(runs) > 2 or len(ns) < 64:
+    if len(runs) > 4 or len(ns) < 64:
         return items([nat(n) for n in ns])
     return '(%s)' % ' ++ '.join('replicate %d %s' % (t, nat(k)) for k, t in runs)
 
@@ -321,7 +330,8 @@ def some_words(seed, count):
     while len(words) < count:
         p = r.choice(partitions(r.randint(1, 18)))
         good = r.choice([shape_word, class_word])(p)
-        words.add(r.choice([r.getrandbits(32), r.getrandbits(30), r.getrandbits(12) << 19, good, good ^ 1 << r.randrange(32)]))
+        near = good ^ 1 << r.randrange(32)
+        words.add(r.choice([r.getrandbits(32), r.getrandbits(30), r.getrandbits(12) << 19, good, near]))
     return sorted(words)
 
 
@@ -339,18 +349,24 @@ def some_lists(seed, count):
 def some_sessions(n, seed):
     """Slips and pages of degree n, from openings on pages of some length, stepped at random; and these spoilt."""
     r = random.Random('%s %s' % (seed, n))
-    for turn in range(4):
+    for turn in range(6):
         s, c = (f(r.choice(partitions(n))) for f in (shape_word, class_word))
-        if turn == 0:
-            c = class_word((1,) * n)
-        k, slip, page = opened(s, c, [r.getrandbits(64) for _ in range(r.randint(1, 7))])
-        for _ in range(2 * n + 1):
+        c = class_word((1,) * n) if turn == 0 else c
+        k, slip, page = opened(s, c, [r.getrandbits(64) for _ in range(r.choice([1, 2, 4, 7, 12]))])
+        for _ in range(n + 1):
             yield slip, page
             if not slip[3]:
                 break
             i = r.randrange(slip[3])
-            k, slip, page = stepped(slip, page, i, r.choice(class_of(line(page[i])[2])))
+            cycles = class_of(line(page[i])[2])
+            k, slip, page = stepped(slip, page, i, r.choice([max(cycles), r.choice(cycles)]))
             yield spoilt(r, slip, page)
+            if k:
+                break
+    if n == 3:
+        k, slip, page = opened(shape_word((2, 1)), class_word((1, 1, 1)), [7] * PAGE)
+        yield slip, page
+        yield slip, page + [0]
 
 
 def spoilt(r, slip, page):
@@ -373,7 +389,8 @@ def spoilt(r, slip, page):
     elif way == 6:
         page[i] ^= 1 << 63
     elif way == 7:
-        page[i] = line_word(r.choice([1, -1]), *(f(r.choice(partitions(r.randint(1, n)))) for f in (shape_word, class_word)))
+        m = r.randint(1, max(1, n))
+        page[i] = line_word(r.choice([1, -1]), shape_word(r.choice(partitions(m))), class_word(r.choice(partitions(m))))
     else:
         page = page[:i]
     return (s, c, settled, lines, steps), page
@@ -393,20 +410,28 @@ def notion(function=None, each=40, least=0, most=99):
     return function
 
 
-@notion
+@notion(least=LIMIT)
 def listing(n, seed):
     """All partitions of n, in order."""
     yield 'listing %d' % n, items([nats(p) for p in partitions(n)])
 
 
-@notion
+@notion(least=LIMIT)
+def sections(n, seed):
+    """Where the words of a degree start among all words, degree by degree, and how many they are."""
+    start = sum(len(partitions(d)) for d in range(n))
+    yield call('sectionOf', nat(n)), 'sectionAnswer 0 %d %d' % (start, len(partitions(n)))
+    yield call('sectionOf', nat(17 + n)), 'sectionAnswer 12 0 0'
+
+
+@notion(least=LIMIT)
 def partition_rank(n, seed):
     """Ranks."""
     for rank, p in enumerate(partitions(n)):
         yield 'rank ' + nats(p), nat(rank)
 
 
-@notion
+@notion(least=LIMIT)
 def shape_words(n, seed):
     """Shape words of shapes, and of their conjugates."""
     for p in partitions(n):
@@ -414,7 +439,7 @@ def shape_words(n, seed):
         yield 'conjugateWord ' + nat(shape_word(p)), nat(shape_word(transposed(p)))
 
 
-@notion
+@notion(least=LIMIT)
 def shapes_read(n, seed):
     """Shapes of shape words; rows and columns interchanged."""
     for p in partitions(n):
@@ -422,34 +447,32 @@ def shapes_read(n, seed):
         yield 'transposed ' + nats(p), nats(transposed(p))
 
 
-@notion
+@notion(least=LIMIT)
 def class_words(n, seed):
     """Class words of classes."""
     for p in partitions(n):
         yield 'classWord ' + nats(p), nat(class_word(p))
 
 
-@notion
+@notion(least=LIMIT)
 def classes_read(n, seed):
     """Classes of class words."""
     for p in partitions(n):
         yield 'classOf ' + nat(class_word(p)), nats(p)
 
 
-@notion
+@notion(least=LIMIT)
 def class_sizes(n, seed):
-    """Sizes and periods of classes; n! and S(n)."""
+    """Sizes and periods of classes; n!, S(n), the number of partitions."""
     yield 'factorial %d' % n, nat(factorial(n))
+    yield 'getD partitionCounts %d 0' % n, nat(len(partitions(n)))
     yield 'S %d' % n, nat(most_steps(n))
     for p in partitions(n):
-        period = 1
-        for length in set(p):
-            period *= length
         yield 'classSize ' + nats(p), nat(class_size(p))
-        yield 'period ' + nats(p), nat(period)
+        yield 'period ' + nats(p), nat(period(p))
 
 
-@notion
+@notion(least=LIMIT)
 def class_signs(n, seed):
     """Signs of classes: that of a permutation of this class."""
     for p in partitions(n):
@@ -463,6 +486,16 @@ def character_degrees(n, seed):
         yield 'characterDegree ' + nats(p), integer(character(p, (1,) * n))
 
 
+@notion(each=20, least=LIMIT)
+def far_characters(n, seed):
+    """Characters of degrees above those whose whole table is asked: random shapes on random classes of few cycles."""
+    r = random.Random('%s %s far' % (seed, n))
+    few = [c for c in partitions(n) if len(c) <= 4]
+    for _ in range(20 if n >= 8 else 0):
+        p, c = r.choice(partitions(n)), r.choice(few)
+        yield '%s on %s' % (nats(p), nats(c)), integer(character(p, c))
+
+
 @notion(each=1)
 def columns(n, seed):
     """The character table, column by column: what the rules of 1954 give."""
@@ -471,7 +504,7 @@ def columns(n, seed):
         yield 'column ' + nats(c), items(values), len(values)
 
 
-@notion
+@notion(least=LIMIT)
 def hook_words(n, seed):
     """The hooks of every length, with their signs, in order, and the words that they leave."""
     for p in partitions(n):
@@ -516,7 +549,8 @@ def words_answered(n, seed):
             yield call(name, nats(ps)), 'wordAnswer %d %s' % (k, nat(0 if k else word(ps)))
     for w in some_words(seed, 60):
         k = shape_refusal(w)
-        yield call('conjugateShape', nat(w)), 'wordAnswer %d %s' % (k, nat(0 if k else shape_word(transposed(shape_of(w)))))
+        word = 0 if k else shape_word(transposed(shape_of(w)))
+        yield call('conjugateShape', nat(w)), 'wordAnswer %d %s' % (k, nat(word))
 
 
 @notion(most=7)
@@ -540,6 +574,7 @@ def numbers_answered(n, seed):
         yield call('classDegree', nat(w)), number_answer(m, sum(c))
         yield call('signOfClass', nat(w)), number_answer(m, (-1)**(sum(c) - len(c)))
         yield call('sizeOfClass', nat(w)), number_answer(m, 0 if m else class_size(c))
+        yield call('periodOfClass', nat(w)), number_answer(m, period(c))
 
 
 def number_answer(k, z):
@@ -590,7 +625,7 @@ def columns_written(n, seed):
                    'filled %d %d %s' % (k, 0 if k else len(values), items(map(integer, left))))
 
 
-@notion(each=10)
+@notion(each=10, least=LIMIT)
 def openings(n, seed):
     """Openings on pages of 0 to 2 words: of every shape on some classes, at times of another degree."""
     r = random.Random('%s %s' % (seed, n))
@@ -613,7 +648,7 @@ def openings_refused(n, seed):
             yield call('opening', nat(s), nat(c), nats(page)), left_text(opened(s, c, page))
 
 
-@notion(each=4)
+@notion(each=4, least=LIMIT)
 def steps(n, seed):
     """Steps on slips and pages of random sessions, and on spoilt ones: every cycle and none, lines past the end."""
     r = random.Random('%s %s steps' % (seed, n))
@@ -640,7 +675,7 @@ def watches(n, seed):
 
 # ---- the writing
 CONSTRUCTORS = {
-    'Rattle.theory.specs.Basics': 'Bool true false List [] _∷_ _++_ replicate ℕ ℤ pos negsuc'.split(),
+    'Rattle.theory.specs.Basics': 'Bool true false List [] _∷_ _++_ replicate getD ℕ ℤ pos negsuc'.split(),
     'Rattle.theory.specs.Hooks': ['Hook'],
     'Rattle.words.specs.declared.CountAnswer': ['CountAnswer'],
     'Rattle.characters.specs.declared.Slip': ['Slip'],
@@ -710,8 +745,8 @@ def write_crate(folder, crate, modules):
     for notion_name, made in modules.items():
         body = OWN + ''.join(equation_text(*equation, shut) for equation in made)
         words = set(re.split(r'[\s(),;{}]+', body))
-        used = {place: [name for name in own if name in words or name.strip('_') in words] for place, own in names.items()}
-        uses = ['use %s.{%s}\n' % (place, ', '.join(own)) for place, own in used.items() if own]
+        used = [(place, [name for name in own if words & {name, name.strip('_')}]) for place, own in names.items()]
+        uses = ['use %s.{%s}\n' % (place, ', '.join(own)) for place, own in used if own]
         write(folder, 'crates/%s/specs/%s.antt' % (crate, notion_name), ''.join(uses) + body)
     write(folder, 'crates/%s/specs/Lib.antt' % crate, ''.join('pub mod %s\n' % name for name in modules))
     write(folder, 'crates/%s/src/lib.rt' % crate, '// Nothing.\n')
@@ -724,7 +759,7 @@ def copy_crates(folder):
     write(folder, 'crates.txt', ''.join(lines))
     for crate in CRATES:
         shutil.copytree('crates/' + crate, '%s/crates/%s' % (folder, crate))
-        if os.path.exists('target/stamp/' + crate):
+        if os.path.exists('target/stamp/' + crate) and os.path.isdir('target/rlib/%s.rlib' % crate):
             shutil.copytree('target/rlib/%s.rlib' % crate, '%s/target/rlib/%s.rlib' % (folder, crate))
             write(folder, 'target/stamp/' + crate, open('target/stamp/' + crate, encoding='utf8').read())
 
@@ -751,18 +786,9 @@ def wrong_equations(made, count, r):
         yield '%s-wrong-%d' % (made[0][0], i), [(left, spoilt_value(right, r), 1)]
 
 
-def main():
-    """Writes the equations, has them checked, and tells."""
-    options = argparse.ArgumentParser(description=__doc__.split('\n')[0])
-    options.add_argument('--degree', type=int, default=7, help='up to this degree')
-    options.add_argument('--only', help='some notions, by name, set apart by commas')
-    options.add_argument('--seed', default='01', help='what random cases start from')
-    options.add_argument('--wrong', type=int, default=2, help='how many values of each notion are changed')
-    options.add_argument('--keep', help='a folder that is not there yet, for the equations; it is left')
-    asked = options.parse_args()
-    os.chdir(os.path.dirname(os.path.dirname(os.path.abspath(__file__))))
-    began, r, parts = time.time(), random.Random(asked.seed), os.cpu_count() or 1
-    folder = asked.keep or tempfile.mkdtemp()
+def run(asked, folder):
+    """Writes the equations, has them checked, and tells: whether all agree, and all that was changed was refused."""
+    began, r, parts = time.time(), random.Random(asked.seed), min(4, os.cpu_count() or 1)
     right = {f.__name__: list(equations(f, asked.degree, asked.seed)) for f in NOTIONS
              if not asked.only or f.__name__ in asked.only.split(',')}
     wrong = {name: list(wrong_equations(made, asked.wrong, r)) for name, made in right.items()}
@@ -774,18 +800,31 @@ def main():
     proved, refused, said = check(folder, ['right_%d' % i for i in range(parts)])
     values = {name: sum(count for _, pairs in made for _, _, count in pairs) for name, made in right.items()}
     for name, made in right.items():
-        differ = sorted(equation for equation, _ in made if equation in refused)
-        print('%-20s %5d values of %4d equations%s' % (name, values[name], len(made), ''.join('\n    DIFFERS: ' + e for e in differ)))
+        print('%-20s %6d values of %4d equations' % (name, values[name], len(made)))
+        print(''.join('    DIFFERS: %s\n' % equation for equation, _ in made if equation in refused), end='')
     changed = {equation for made in wrong.values() for equation, _ in made}
-    caught = check(folder, ['wrong'])[1] if proved else set()
+    caught = check(folder, ['wrong'])[1] & changed if proved else set()
+    print('' if proved else said, end='')
+    print(''.join('NOT REFUSED: %s\n' % equation for equation in sorted(changed - caught) if proved), end='')
     print('%s: %d values of %d equations; %d of %d changed values refused; %.0f s' % (
         'all agree' if proved else 'NOT ALL AGREE, or not checked', sum(values.values()), sum(map(len, right.values())),
-        len(caught & changed), len(changed), time.time() - began))
-    if not proved:
-        print(said)
-    if not asked.keep:
-        shutil.rmtree(folder)
-    return 0 if proved and changed and changed <= caught else 1
+        len(caught), len(changed), time.time() - began))
+    return proved and bool(changed) and caught == changed
+
+
+def main():
+    """Reads the options, and runs in a folder that is removed unless it is to be kept."""
+    options = argparse.ArgumentParser(description=__doc__.split('\n')[0])
+    options.add_argument('--degree', type=int, default=9, help='characters and watches up to this degree (9)')
+    options.add_argument('--only', help='some notions, by name, set apart by commas')
+    options.add_argument('--seed', default='01', help='what random cases start from')
+    options.add_argument('--wrong', type=int, default=4, help='how many values of each notion are changed (4)')
+    options.add_argument('--keep', help='a folder that is not there yet, for the equations; it is left')
+    asked = options.parse_args()
+    kept = asked.keep and os.path.abspath(asked.keep)
+    os.chdir(os.path.dirname(os.path.dirname(os.path.abspath(__file__))))
+    with tempfile.TemporaryDirectory() as folder:
+        return 0 if run(asked, kept or folder) else 1
 
 
 if __name__ == '__main__':

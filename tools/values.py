@@ -16,8 +16,8 @@ random, one in an equation, and the checker has to refuse every such equation: s
     python3 tools/values.py --only steps,watches --seed 7    some notions, other random cases
     python3 tools/values.py --keep DIR       leave the equations in DIR, to be read
 
-Without options it compares some 36,000 values of 1,700 equations, in 3 to 5 minutes on two busy cores (100 seconds of
-work for the checker), and longer where the four crates have to be proved first.
+Without options it compares some 36,000 values of 1,700 equations, with two minutes of computing in all (four and a half
+were seen on two busy cores); longer where the four crates have to be proved first.
 
 It is run by hand, and is no part of the gate. The exit status is 0 only if every value agrees and every changed one is
 refused. It needs Python 3 and `rt`. For a new definition write one more function with @notion in front, which yields

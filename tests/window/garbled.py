@@ -13,8 +13,9 @@ ANSWERS = re.compile(rb'''refused\ [0-9]+:\ .*
     | no\ line\ waits:\ the\ character\ is\ -?[0-9]+
     | sum\ of\ the\ waiting\ lines:\ -?[0-9]+
     | settled\ plus\ waiting:\ -?[0-9]+,\ unchanged\ since\ the\ opening
+    | the\ character\ of\ \([0-9,]*\)\ on\ \([0-9,]*\)\ is\ -?[0-9]+
     | (class|\([0-9,]*\))\ .*
-    | (open|strike|lines|watch|table|help|quit|SHAPE|LINE)\ .*''', re.VERBOSE)
+    | (open|strike|lines|watch|character|table|help|quit|SHAPE|LINE)\ .*''', re.VERBOSE)
 
 # The last command, and its answer: what is read to the end is answered to the end.
 LAST = b'\nopen 1 1\n'
@@ -25,9 +26,10 @@ PARTITIONS = ['3,2', '2,2,1', '1,1,1,1,1', '4,1', '5', '0x2C000000', '0x14000000
 
 def command(dice):
     """A command of its form, or nearly."""
-    opening = f'open {dice.choice(PARTITIONS)} {dice.choice(PARTITIONS)}'
+    shape, cycles = dice.choice(PARTITIONS), dice.choice(PARTITIONS)
     strike = f'strike {dice.randrange(4)} {dice.randrange(6)}'
-    return dice.choice([opening, strike, strike, strike, 'lines', 'watch', f'table {dice.randrange(7)}', 'help'])
+    return dice.choice([f'open {shape} {cycles}', strike, strike, strike, 'lines', 'watch',
+                        f'character {shape} {cycles}', f'table {dice.randrange(7)}', 'help'])
 
 
 def line(dice):

@@ -8,7 +8,8 @@ The pages are README.md and docs/*.md; docs/changes/*.md are history, which name
   crate and speaks of this function's contract; its edits are must-fail edits of its crate, or of the one that it names;
   each call but an export has two or more, or an exception with a reason.
 - Every edit, and every theorem of a Unique.antt, is named: an edit on PROMISES or READING, a theorem on PROMISES.
-- Every definition file is named on READING, and the tables that tools/pages.py writes are what it writes.
+- Every definition file is named on READING, every crate has a row on ARCHITECTURE, row k of the refusals names no-k,
+  and the tables that tools/pages.py writes are what it writes. No edit changes a file of proofs/.
 - Decisions are numbered, each number once, and a number that is cited is there; a line of text has at most 120
   characters.
 It tells that a name is there, not that it says what the page claims. Last it tries itself: a page that is changed in
@@ -38,7 +39,7 @@ rt help stdout NAME CRATE
     'N passed, 0 failed', 'old:', 'new:', 'pub mod', 'pub fn'}
 
 # Commands of rt, and the folder of what they make, which need not be there.
-COMMANDS = 'check ci dev doc fmt goals must-fail prove staticlib try'.split()
+COMMANDS = 'check ci dev doc fmt must-fail staticlib'.split()
 MADE = 'target/'
 
 # Where a path may begin.
@@ -125,7 +126,8 @@ def named(name):
 
 def names_in(text):
     """What stands in backquotes in a page, paragraph by paragraph."""
-    return {' '.join(name.split()) for line in pages.flowing(text).splitlines() for name in re.findall(r'`([^`]+)`', line)}
+    lines = pages.flowing(text).splitlines()
+    return {' '.join(name.split()) for line in lines for name in re.findall(r'`([^`]+)`', line)}
 
 
 def wrong_names(page, text):
@@ -175,6 +177,13 @@ def wrong_theorem(function, crate, cell):
     alias = [name[1:] for name, (module, _) in brought.items() if module == reads and name.startswith('*')]
     if not alias or item.statement.count(' %s.Post ' % alias[0]) != 2:
         yield '%s is not about this function' % names[0]
+        return
+    of, other = (' %s.Post κs a %s ' % (alias[0], outcome) for outcome in ('r s', 'r′ s′'))
+    said = item.statement.rpartition('→')[2]
+    if of not in item.statement or other not in item.statement or 'r ≡ r′' not in said:
+        yield '%s does not say that two outcomes are one' % names[0]
+    if len(re.findall(r'now \(s [^)]*\) ≡ now \(s′ ', said)) != tree.functions()[function].lent:
+        yield '%s does not say so of each lent run' % names[0]
 
 
 def wrong_edits(crate, cell):
@@ -223,6 +232,26 @@ def wrong_converse(texts):
             yield '%s: %s is not listed' % (READING, file)
 
 
+def wrong_rows(texts):
+    """Refusals in READING, each in its row; crates that a page leaves out; an edit that changes a proof, or is not as
+    CONTRIBUTING shows it."""
+    for number, row in re.findall(r'^\| (\d+) \| (.*)', texts[READING], re.M):
+        if '`no-%s`' % number not in row:
+            yield '%s: row %s does not name no-%s' % (READING, number, number)
+    layers = texts['docs/ARCHITECTURE.md'].partition('| crate | holds ')[2].partition('\n\n')[0]
+    for crate in tree.crates():
+        if '`%s`' % crate not in ' '.join(re.findall(r'^\| (.*?) \|', layers, re.M)):
+            yield 'docs/ARCHITECTURE.md: no row for the crate %s' % crate
+    edits = {file: tree.read(file) for file in glob.glob('crates/*/must-fail/*.edit')}
+    for file, text in edits.items():
+        for changed in re.findall(r'^file: (.*)', text, re.M):
+            if not changed.startswith(('src/', 'specs/')):
+                yield '%s changes %s' % (file, changed)
+    shown = re.search(r'`(crates/\S+\.edit)`:\n\n```text\n(.*?)```', texts['docs/CONTRIBUTING.md'], re.S)
+    if not shown or edits.get(shown[1]) != shown[2]:
+        yield 'docs/CONTRIBUTING.md: the edit that it shows is not so'
+
+
 def wrong_decisions(texts):
     numbers = re.findall(r'^\*\*D(\d+)\. ', texts[DECISIONS], re.M)
     for number in sorted(set(numbers), key=int):
@@ -257,6 +286,7 @@ def lacking(texts):
     for why in wrong_promises(texts[PROMISES]):
         yield '%s: %s' % (PROMISES, why)
     yield from wrong_converse(texts)
+    yield from wrong_rows(texts)
     yield from wrong_decisions(texts)
     yield from wrong_words(texts)
     yield from pages.differences(texts)
@@ -282,6 +312,8 @@ CHANGES = [
     (READING, r'`characters::character`', '`characters::charakter`', 'nothing is named characters::charakter'),
     (READING, r'\.antt` \|', '.ant` |', 'nothing is named crates/'),
     (READING, r'\| (\d+) \|$', r'| 1\1 |', 'the table "believed"'),
+    (READING, r'its `bounded`', 'its `bound`', 'has no bound'),
+    (READING, r'^(\| 8 \|.*)`no-8`', r'\1`no-11`', 'row 8 does not name no-8'),
     (READING, r'`Evaluation`', '', 'the table "more"'),
     (READING, r'`minus_one_one_is_nothing`', '`minus_one_one_is_nought`', 'nothing is named minus_one'),
     (READING, r'`sessiontests`', '`sessiontests', 'a backquote is open'),
@@ -289,6 +321,8 @@ CHANGES = [
     ('docs/ARCHITECTURE.md', r'\| (\d+) \|', r'| 1\1 |', 'the table "sizes"'),
     ('docs/ARCHITECTURE.md', r'`lines::strip`', '`lines::stripe`', 'nothing is named lines::stripe'),
     ('docs/PROOF.md', r'`lowered-lowered`', '`lowered-lowering`', 'Lowered.antt has no lowered-lowering'),
+    ('docs/ARCHITECTURE.md', r'^\| `listing`.*\n', '', 'no row for the crate listing'),
+    ('docs/CONTRIBUTING.md', r'^old: .*', 'old: nothing', 'the edit that it shows'),
     ('docs/CONTRIBUTING.md', r'`rt dev', '`rt deliver', 'nothing is named rt deliver'),
     ('docs/CONTRIBUTING.md', r'\bdocs/PROMISES', 'docs/PROMISE', 'no file docs/PROMISE.md'),
     (DECISIONS, r'^\*\*D2\. ', '**D1. ', 'D1 is there twice'),

@@ -45,7 +45,7 @@ def wrapped(text):
 # ---- what a page cites
 
 CITED_FILE = r'((?:[A-Z]|[a-z]+/(?:specs|proofs)/|proofs/)[A-Za-z0-9/]*)'
-CITED = re.compile(CITED_FILE + r':((?:,? (?:and )?`[^`:]+`(?: \([^)]*\))?(?: \.\.)?)+)')
+CITED = re.compile(CITED_FILE + r':((?:,? (?:and |its |in its field )?`[^`:]+`(?: \([^)]*\))?(?: \.\.)?)+)')
 
 
 def flowing(text):

@@ -11,8 +11,6 @@ import re
 from dataclasses import dataclass, field
 
 MODIFIERS = r'(?:(?:abbrev|unfoldable|pub|opaque)\s+)*'
-# A type that is no statement: what has it is a definition, marked or not.
-VALUED = re.compile(r'(Type|ℕ|ℤ|Bool|List|Parts|Digits|Text|Line|Slip|Call|Factor)\b[^≡≤<⊎]*$')
 WORD = r'(?!=\s)[^\s(){}]+'
 SIGNATURE = re.compile(r'(%s)(?:(record|data)\s+(\S+)|(%s(?: %s)*?) :(?=\s|$))' % (MODIFIERS, WORD, WORD))
 
@@ -61,6 +59,7 @@ class Function:
     public: bool
     promise: str
     asks: bool
+    lent: int  # how many runs it may write
     file: str
 
 
@@ -85,6 +84,7 @@ def functions_in(path, file, reached):
             public=bool(m['pub']) and (reached or bool(m['extern'])),
             promise=' '.join(re.findall(r'ensures (\{.*?⌝ \}|\{.*?\})', contract, re.S)),
             asks='requires' in contract,
+            lent=len(re.findall(r'&mut \[', contract)),
             file=file,
         )
     for m in re.finditer(r'^(pub )?mod (\w+);', text, re.M):
@@ -194,8 +194,6 @@ def module(path):
         elif item:
             item.open = False
             item.text += '\n' + line
-    for item in items.values():
-        item.defines = item.defines or bool(VALUED.match(item.statement.split('→')[-1].split(' : ')[-1].strip()))
     return items, imports(text)
 
 

@@ -11,13 +11,13 @@ A copy of the four crates is made in a temporary folder, with crates beside them
 proves these; what the repository has proved already is not proved again. Then some values of each notion are changed at
 random, one in an equation, and the checker has to refuse every such equation: so the comparison can fail.
 
-    python3 tools/values.py                  characters and watches up to degree 9; words, hooks, steps up to 16
-    python3 tools/values.py --degree 10      characters and watches further
+    python3 tools/values.py                  characters and watches up to degree 10; words, hooks, steps up to 16
+    python3 tools/values.py --degree 11      characters and watches further
     python3 tools/values.py --only steps,watches --seed 7    some notions, other random cases
     python3 tools/values.py --keep DIR       leave the equations in DIR, to be read
 
-Without options it compares some 36,000 values of 1,700 equations, with two minutes of computing in all (four and a half
-were seen on two busy cores); longer where the four crates have to be proved first.
+Without options it compares some 38,000 values of 1,800 equations, in two minutes on two cores that do little else (four
+and a half were seen on busy ones); longer where the four crates have to be proved first.
 
 It is run by hand, and is no part of the gate. The exit status is 0 only if every value agrees and every changed one is
 refused. It needs Python 3 and `rt`. For a new definition write one more function with @notion in front, which yields
@@ -815,7 +815,7 @@ def run(asked, folder):
 def main():
     """Reads the options, and runs in a folder that is removed unless it is to be kept."""
     options = argparse.ArgumentParser(description=__doc__.split('\n')[0])
-    options.add_argument('--degree', type=int, default=9, help='characters and watches up to this degree (9)')
+    options.add_argument('--degree', type=int, default=10, help='characters and watches up to this degree (10)')
     options.add_argument('--only', help='some notions, by name, set apart by commas')
     options.add_argument('--seed', default='01', help='what random cases start from')
     options.add_argument('--wrong', type=int, default=4, help='how many values of each notion are changed (4)')

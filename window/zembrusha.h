@@ -133,7 +133,8 @@ struct zembrusha_number zembrusha_class_parts(uint32_t class, uint8_t *column, s
 struct zembrusha_number zembrusha_column(uint32_t class, int64_t *values, size_t length);
 
 /* ---- Sessions, on a page of 0 to 4,096 words that the caller lends. A waiting line is one word: bit 63 is set for a
- * minus sign, bits 62 to 32 are the shape word, bits 31 to 0 the class word. Slip and page are handed on together. */
+ * minus sign, bits 62 to 32 are the shape word, bits 31 to 0 the class word. Slip and page are handed on together: an
+ * older slip may pass as sound on a later page, and its sum is another. */
 
 /* Opens a session: one line on the page, zeros after it (at degree 0 no line, and settled is 1). Refuses 1, 3, 2, 4, 5,
  * 6, 10, with a slip of zeros. */

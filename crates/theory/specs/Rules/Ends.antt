@@ -1,7 +1,7 @@
 -- Every way of following the three rules ends. Rule 3 exchanges two neighbouring beta-numbers, a smaller one and a
 -- greater one behind it: of such pairs there is then one fewer.
 --   Next l          some rule applies to the list l, or it is a shape
---   Ends l          every way from l ends: some rule applies, and from whatever rule 3 makes of l every way ends
+--   Ends l          every way from l ends: a rule applies or l is a shape, and every way from what rule 3 makes of l ends
 --   one-if-less     1 where x is less than y, else 0; greater x l, how many entries of l are greater than x
 --   rises l         how many pairs of entries of l have the greater one behind
 use mathlib.Core.Path.{_≡_, sym, _∙_, ap}

@@ -23,7 +23,7 @@ fn print_row(name: &[u8], board: &[u64; 64], row: usize) {
 }
 
 // Lines of openings and of steps: how many were accepted, and how many each number from 1 to 15 refused. A line of
-// calls by what was wrong: with how many nothing was, then 1 for the twin, 2 for a refused call, 4 for an accepted one,
+// calls by what was wrong: how many had nothing wrong, then 1 for the twin, 2 for a refused call, 4 for an accepted one,
 // 8 for the sum, added up; a second such line of calls where the number of lines or the room for them was wrong too.
 fn main() {
     print(

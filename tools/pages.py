@@ -14,6 +14,7 @@
 """
 import datetime
 import functools
+import glob
 import os
 import re
 import sys
@@ -145,10 +146,11 @@ def library(files):
 
 def structs(files):
     rows = []
-    for file, names in files.items():
-        if file.endswith('/src'):
-            declared = re.findall(r'^pub (?:struct|enum) (\w+)', tree.read(file + '/lib.rt'), re.M)
-            rows.append('%s of `%s/lib.rt`' % (quoted(name for name in declared if name in names), file))
+    for folder, names in files.items():
+        for file in sorted(glob.glob(folder + '/*.rt')) if folder.endswith('/src') else []:
+            declared = re.findall(r'^pub (?:struct|enum) (\w+)', tree.read(file), re.M)
+            if names.intersection(declared):
+                rows.append('%s of `%s`' % (quoted(name for name in declared if name in names), file))
     return wrapped('Structs and enums: %s.' % '; '.join(rows))
 
 

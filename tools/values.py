@@ -1,28 +1,26 @@
 #!/usr/bin/env python3
 """values.py: reckons values by a model of its own, and has the checker compute the definitions and compare.
 
-The definitions are those of the specs of `theory`, `words`, `listing` and `characters`. The model shares nothing with
-them: partitions by adding cells, words as strings of digits, characters from permutation characters made orthogonal by
-class sizes (no hooks, and nothing of the rules of 1954), hooks as connected border strips of cells of the diagram,
-refusals, slips, pages and watches from the text of document 01. Each equation is a list of expressions over the
-definitions and the list of their values, proved by computation alone (`refl`).
+The definitions are those of the specs of `theory`, `words`, `listing`, `pages`, `characters` and `sessiontext`. The
+model, which shares nothing with them, is model.py, and texts.py for the text of a session. Each equation is a list of
+expressions over the definitions and the list of their values, proved by computation alone (`refl`).
 
-A copy of the four crates is made in a temporary folder, with crates beside them that have the equations, and `rt`
-proves these; what the repository has proved already is not proved again. Then some values of each notion are changed at
+A copy of the crates is made in a temporary folder, with crates beside them that have the equations, and `rt` proves
+these; what the repository has proved already is not proved again. Then some values of each notion are changed at
 random, one in an equation, and the checker has to refuse every such equation: so the comparison can fail.
 
-    python3 tools/values.py                  characters and watches up to degree 10; words, hooks, steps up to 16
+    python3 tools/values.py                  characters and watches up to degree 10; words, hooks, steps, texts up to 16
     python3 tools/values.py --degree 8       characters and watches less far
     python3 tools/values.py --only steps,watches --seed 7    some notions, other random cases
     python3 tools/values.py --keep DIR       leave the equations in DIR, to be read
 
-Without options it compares some 38,000 values of 1,800 equations, in two minutes on two cores that do little else (four
-and a half were seen on busy ones); longer where the four crates have to be proved first.
+Without options it compares some 42,000 values of 2,500 equations, in 200 seconds of processor time on as many cores as
+there are up to four (five minutes were seen on two busy ones); longer where the crates have to be proved first.
 
 It is run by hand, and is no part of the gate. The exit status is 0 only if every value agrees and every changed one is
 refused. It needs Python 3 and `rt`. For a new definition write one more function with @notion in front, which yields
 expressions and values; for a definition that changes, change the model. A value is what one expression asks for, but
-each entry of a column and each hook is one."""
+each entry of a column and each hook is one, and the slip and the lines of a text are two."""
 import argparse
 import os
 import random
@@ -33,236 +31,18 @@ import subprocess
 import sys
 import tempfile
 import time
-from collections import Counter
-from functools import lru_cache
 from itertools import groupby
-from math import factorial, perm, prod
+from math import factorial
 
-CRATES = ['theory', 'words', 'listing', 'characters']
-LIMIT, PAGE = 16, 4096  # document 01: the largest degree, the longest page
+sys.dont_write_bytecode = True
+from model import (  # noqa: E402
+    LIMIT, PAGE, character, class_of, class_refusal, class_size, class_word, first_of, hooks, line, line_word,
+    list_refusal, most_steps, opened, pair_refusal, partitions, period, shape_of, shape_refusal, shape_word, sound,
+    stepped, transposed, watched)
+from texts import LEAST, MOST, by_hand, bytes_of, damaged, loaded, put_away, saved, taken_up  # noqa: E402
 
-
-# ---- the model: partitions and words
-@lru_cache(None)
-def partitions(n):
-    """All partitions of n, largest first part first: those of n - 1 with a cell added in every way."""
-    if n == 0:
-        return [()]
-    found = set()
-    for p in partitions(n - 1):
-        for i, r in enumerate(p + (0,)):
-            if i == 0 or p[i - 1] > r:
-                found.add(p[:i] + (r + 1,) + p[i + 1:])
-    return sorted(found, reverse=True)
-
-
-def number(digits):
-    """The number whose digits these are, digit 1 being bit 30; zeros fill the rest."""
-    return int(digits.ljust(31, '0'), 2)
-
-
-def shape_word(rows):
-    """A zero for each row; after the zeros of equal rows as many ones as these exceed the next shorter row."""
-    groups = [(r, len(list(g))) for r, g in groupby(rows)] + [(0, 0)]
-    return number(''.join('0' * t + '1' * (r - s) for (r, t), (s, _) in zip(groups, groups[1:])))
-
-
-def class_word(parts):
-    """A part p gives p - 1 zeros and then a one."""
-    return number(''.join('0' * (p - 1) + '1' for p in parts))
-
-
-def shape_of(word):
-    """A row for each zero, as long as there are ones after it."""
-    digits = format(word % 2**31, '031b')
-    ones = [digits[i:].count('1') for i, d in enumerate(digits) if d == '0']
-    return tuple(k for k in ones if k)
-
-
-def class_of(word):
-    """Each one ends a part, as long as it and the zeros before it."""
-    return tuple(len(zeros) + 1 for zeros in format(word % 2**31, '031b').split('1')[:-1])
-
-
-def cells(shape):
-    """The cells of a diagram."""
-    return {(i, j) for i, r in enumerate(shape) for j in range(r)}
-
-
-def transposed(shape):
-    """Rows and columns of the diagram interchanged."""
-    columns = Counter(j for _, j in cells(shape))
-    return tuple(columns[j] for j in sorted(columns))
-
-
-def falls(parts):
-    """Whether no part is 0 and none rises."""
-    return 0 not in parts and list(parts) == sorted(parts, reverse=True)
-
-
-# ---- the model: characters and hooks
-@lru_cache(None)
-def class_size(c):
-    """How many permutations have these cycles: by the cycle that the first element is in, and those of the rest."""
-    rest = {p: c[:c.index(p)] + c[c.index(p) + 1:] for p in c}
-    return sum(perm(sum(c) - 1, p - 1) * class_size(rest[p]) for p in rest) if c else 1
-
-
-def period(c):
-    """The product of the different part lengths."""
-    return prod(set(c))
-
-
-@lru_cache(None)
-def fixed(rows, c):
-    """How many tabloids of these rows a permutation of class c leaves as they are."""
-    if not c:
-        return 1
-    return sum(fixed(rows[:i] + (r - c[0],) + rows[i + 1:], c[1:]) for i, r in enumerate(rows) if r >= c[0])
-
-
-@lru_cache(None)
-def characters(n):
-    """The character table of degree n, by shape and class: permutation characters, made orthogonal."""
-    classes, found = partitions(n), {}
-    for shape in classes:
-        v = [fixed(shape, c) for c in classes]
-        for w in found.values():
-            k = sum(class_size(c) * a * b for c, a, b in zip(classes, v, w)) // factorial(n)
-            v = [a - k * b for a, b in zip(v, w)]
-        found[shape] = v
-    return {(shape, c): x for shape, v in found.items() for c, x in zip(classes, v)}
-
-
-def character(shape, c):
-    """The character of a shape on a class."""
-    return characters(sum(c))[shape, c]
-
-
-def connected(strip):
-    """Whether a set of cells is in one piece, cell beside cell."""
-    seen, todo = set(), [min(strip)]
-    while todo:
-        i, j = cell = todo.pop()
-        if cell in strip and cell not in seen:
-            seen.add(cell)
-            todo += [(i + 1, j), (i - 1, j), (i, j + 1), (i, j - 1)]
-    return seen == strip
-
-
-@lru_cache(None)
-def hooks(shape, h):
-    """The hooks of length h, top row first: whether its sign is minus, and the shape that it leaves. A hook is a
-    connected strip of h cells of the border, with no square of four; it is minus if it goes down an odd number."""
-    found = []
-    for left in partitions(sum(shape) - h) if 1 <= h <= sum(shape) else []:
-        strip = cells(shape) - cells(left)
-        square = any({(i + 1, j), (i, j + 1), (i + 1, j + 1)} <= strip for i, j in strip)
-        if cells(left) <= cells(shape) and connected(strip) and not square:
-            rows = {i for i, _ in strip}
-            found.append((min(rows), len(rows) % 2 == 0, left))
-    return [hook[1:] for hook in sorted(found)]
-
-
-# ---- the model: refusals, sessions
-def first_of(*checks):
-    """The number of the first check that applies, 0 for none."""
-    return next((number for applies, number in checks if applies), 0)
-
-
-def shape_refusal(w, more=()):
-    """1, 2 for a shape word."""
-    return first_of((w >= 2**30, 1), *more, (sum(shape_of(w)) > LIMIT, 2))
-
-
-def class_refusal(w):
-    """3, 4 for a class word."""
-    return first_of((w >= 2**31 or not falls(class_of(w)), 3), (sum(class_of(w)) > LIMIT, 4))
-
-
-def pair_refusal(s, c):
-    """1, 3, 2, 4, 5 for a shape word and a class word."""
-    bad = [k for k in (shape_refusal(s), class_refusal(c)) if k]
-    differ = sum(shape_of(s)) != sum(class_of(c))
-    return min(bad, key=[1, 3, 2, 4].index) if bad else 5 if differ else 0
-
-
-def list_refusal(parts, large):
-    """3, then 2 or 4 for a part list."""
-    return first_of((not falls(parts), 3), (sum(parts) > LIMIT, large))
-
-
-@lru_cache(None)
-def most_steps(d):
-    """S(d)."""
-    return 1 + d * most_steps(d - 1) if d else 0
-
-
-def line(word):
-    """A line's sign, shape word and class word."""
-    return (-1 if word >> 63 else 1), (word >> 32) % 2**31, word % 2**32
-
-
-def line_word(sign, s, c):
-    """The word of a line."""
-    return ((2**31 if sign < 0 else 0) + s << 32) + c
-
-
-def sound(slip, page):
-    """Document 01's sound slip and page; a slip is (shape, class, settled, lines, steps)."""
-    s, c, settled, lines, steps = slip
-    if pair_refusal(s, c) or lines > len(page) or any(page[lines:]):
-        return False
-    n, degrees = sum(shape_of(s)), []
-    for _, t, k in map(line, page[:lines]):
-        d = sum(shape_of(t))
-        if t >= 2**30 or class_refusal(k) == 3 or d != sum(class_of(k)) or not 1 <= d <= n:
-            return False
-        degrees.append(d)
-    return (abs(settled) + sum(map(factorial, degrees)) <= factorial(n)
-            and 0 <= steps and steps + sum(map(most_steps, degrees)) <= most_steps(n))
-
-
-def opened(s, c, page):
-    """What an opening answers: refusal number, slip, page."""
-    lines = [] if s == 0 else [line_word(1, s, c)]
-    k = pair_refusal(s, c) or first_of((len(page) > PAGE, 6), (len(lines) > len(page), 10))
-    if k:
-        return k, (0, 0, 0, 0, 0), page
-    return 0, (s, c, 0 if lines else 1, len(lines), 0), lines + [0] * (len(page) - len(lines))
-
-
-def stepped(slip, page, i, cycle):
-    """What a step answers: refusal number, slip, page."""
-    s, c, settled, lines, steps = slip
-    k = first_of((len(page) > PAGE, 6), (not sound(slip, page), 7), (i >= lines, 8))
-    if not k:
-        sign, t, u = line(page[i])
-        parts = list(class_of(u))
-        k = 0 if cycle in parts else 9
-    if not k:
-        parts.remove(cycle)
-        found = [(-sign if minus else sign, left) for minus, left in hooks(shape_of(t), cycle)]
-        waiting = [line_word(e, shape_word(left), class_word(parts)) for e, left in found if left]
-        after = page[:i] + page[i + 1:lines] + waiting
-        k = 10 if len(after) > len(page) else 0
-    if k:
-        return k, slip, page
-    settled += sum(e for e, left in found if not left)
-    return 0, (s, c, settled, len(after), steps + 1), after + [0] * (len(page) - len(after))
-
-
-def watched(slip, page, kind, i):
-    """What a watch answers: a refusal number, or a whole number or a ratio (a float)."""
-    k = first_of((len(page) > PAGE, 6), (not sound(slip, page), 7), (not 1 <= kind <= 5, 15),
-                 (kind <= 2 and i >= slip[3], 8))
-    if k:
-        return k, None
-    values = [e * character(shape_of(t), class_of(u)) for e, t, u in map(line, page[:slip[3]])]
-    if kind == 2:
-        shape = shape_of(line(page[i])[1])
-        return 0, float(values[i]) / float(character(shape, (1,) * sum(shape)))
-    return 0, values[i] if kind == 1 else slip[2] if kind == 3 else sum(values) if kind == 4 else slip[4]
+CRATES = ['theory', 'text', 'words', 'listing', 'pages', 'characters', 'sessiontext']
+LIBRARIES = ['check', 'io']  # what some of them rest on
 
 
 # ---- values as text of antt
@@ -306,6 +86,16 @@ def slip_text(slip):
     """A slip."""
     s, c, settled, lines, steps = slip
     return '(slipOf %s %s %s %d %s)' % (nat(s), nat(c), integer(settled), lines, integer(steps))
+
+
+def lines_text(lines):
+    """Waiting lines."""
+    return items(['plain %s %s %s' % (truth(sign < 0), nat(s), nat(c)) for sign, s, c in lines])
+
+
+def bytes_text(text):
+    """A text."""
+    return nats(bytes_of(text))
 
 
 def left_text(answer):
@@ -394,6 +184,33 @@ def spoilt(r, slip, page):
     else:
         page = page[:i]
     return (s, c, settled, lines, steps), page
+
+
+def some_put_away(n, seed):
+    """Slips of degree n and waiting lines that a text can hold: of random sessions, and at random, sound or not."""
+    r = random.Random('%s %s put away' % (seed, n))
+    for slip, page in some_sessions(n, seed):
+        if sound(slip, page) and len(page) < PAGE and r.randrange(5) == 0:
+            yield slip, [line(word) for word in page[:slip[3]]]
+    for _ in range(6):
+        lines = []
+        for _ in range(r.choice([0, 1, 2, 3, 5, 11])):
+            m = r.choice([r.randint(0, n), r.randint(0, LIMIT)])
+            c = r.choice(partitions(r.choice([m, m, m, r.randint(0, LIMIT)])))
+            lines.append((r.choice([1, -1]), shape_word(r.choice(partitions(m))), class_word(c)))
+        c = r.choice(partitions(r.choice([n, n, r.randint(0, LIMIT)])))
+        settled = r.choice([LEAST, MOST, -1, factorial(n), -factorial(n), r.randint(-99, 99), r.randint(LEAST, MOST)])
+        steps = r.choice([MOST, 10, most_steps(n), r.randint(0, 999), r.randint(0, MOST)])
+        yield (shape_word(r.choice(partitions(n))), class_word(c), settled, len(lines), steps), lines
+
+
+def some_texts(n, seed):
+    """Their texts, and each of these damaged."""
+    r = random.Random('%s %s texts' % (seed, n))
+    for slip, lines in some_put_away(n, seed):
+        text = put_away(slip, lines)
+        yield text
+        yield from damaged(r, text)
 
 
 # ---- notions: each yields expressions over the definitions, their values, and how many values that is, if not one
@@ -673,19 +490,80 @@ def watches(n, seed):
             yield call('watch', slip_text(slip), nats(page), nat(kind), nat(i)), 'saw %d %s' % (k, shown)
 
 
+@notion(each=5, least=LIMIT)
+def texts_written(n, seed):
+    """The texts of slips and waiting lines, byte by byte."""
+    for slip, lines in some_put_away(n, seed):
+        yield 'sessionText %s %s' % (slip_text(slip), lines_text(lines)), bytes_text(put_away(slip, lines))
+
+
+@notion(each=10, least=LIMIT)
+def faults(n, seed):
+    """The first lines at fault of such texts, and of damaged ones."""
+    for text in some_texts(n, seed):
+        yield call('fault', bytes_text(text)), nat(taken_up(text)[0])
+
+
+@notion(each=20, most=0)
+def faults_by_hand(n, seed):
+    """The first lines at fault as the issue of P1 has them, rule by rule."""
+    for text, k in by_hand():
+        assert k == taken_up(text)[0], text
+        yield call('fault', bytes_text(text)), nat(k)
+
+
+@notion(each=5, least=LIMIT)
+def texts_read(n, seed):
+    """The slip and the waiting lines of those that have no fault."""
+    for text in some_texts(n, seed) if n else [*some_texts(n, seed), *(text for text, _ in by_hand())]:
+        at_fault, slip, lines = taken_up(text)
+        if not at_fault:
+            asked = 'put (slipIn %s) (linesIn %s)' % (bytes_text(text), bytes_text(text))
+            yield asked, 'put %s %s' % (slip_text(slip), lines_text(lines)), 2
+
+
+@notion(each=2, least=LIMIT)
+def saves(n, seed):
+    """Saves of random sessions, and of spoilt ones: into too few bytes, just enough, and more."""
+    r = random.Random('%s %s saves' % (seed, n))
+    for slip, page in some_sessions(n, seed):
+        if len(page) >= PAGE or r.randrange(8) == 0:
+            out = [7] * max(0, saved(slip, page, [7] * 999)[1] + r.choice([-1, 0, 0, 3]))
+            k, length, left = saved(slip, page, out)
+            asked = call('saveInto', slip_text(slip), nats(page), nats(out))
+            yield asked, 'counted %d %d %s' % (k, length, nats(left))
+
+
+@notion(each=2, least=LIMIT)
+def loads(n, seed):
+    """Loads of texts, and of damaged ones: onto pages too short, just long enough, longer; 4,096 and 4,097 words."""
+    r = random.Random('%s %s loads' % (seed, n))
+    for slip, lines in some_put_away(n, seed):
+        good = put_away(slip, lines)
+        for text in (good, r.choice(list(damaged(r, good)))):
+            rooms = [max(0, len(lines) + r.choice([-1, 0, 0, 2]))] + [PAGE, PAGE + 1] * (n == 3 and not lines)
+            for page in ([7] * room for room in rooms):
+                k, at_fault, left, words = loaded(text, page)
+                asked = call('loadInto', bytes_text(text), nats(page))
+                yield asked, 'taken (loaded %d %d %s) %s' % (k, at_fault, slip_text(left), nats(words))
+
+
 # ---- the writing
 CONSTRUCTORS = {
     'Rattle.theory.specs.Basics': 'Bool true false List [] _∷_ _++_ replicate getD ℕ ℤ pos negsuc'.split(),
     'Rattle.theory.specs.Hooks': ['Hook'],
     'Rattle.words.specs.declared.CountAnswer': ['CountAnswer'],
-    'Rattle.characters.specs.declared.Slip': ['Slip'],
+    'Rattle.pages.specs.declared.Slip': ['Slip'],
+    'Rattle.pages.specs.Line': ['Line'],
     'Rattle.characters.specs.declared.Handed': ['Handed'],
+    'Rattle.sessiontext.specs.declared.Loaded': ['Loaded'],
     'Rattle.characters.specs.Watch': ['Value', 'whole', 'quotient', 'none'],
     'lib.Ieee': ['Float', 'fin'],
     'mathlib.Core.Path': ['_≡_', 'refl'],
 }
 LIBRARY = ['div', 'ofInt']  # definitions of lib.Ieee that have to be unfolded
 PASSED_OVER = ['Lib.antt', 'Private.antt', 'Examples.antt', 'Run.antt']
+HIDDEN = [('text', 'step')]  # asked by no notion, and named as a call is
 OWN = """
 abbrev hook : Bool → ℕ → Hook ℕ
 hook minus left = record { minus = minus; leaves = left }
@@ -701,6 +579,12 @@ counted k n column = (countAnswer k n, column)
 
 abbrev filled : ℕ → ℕ → List ℤ → CountAnswer × List ℤ
 filled k n column = (countAnswer k n, column)
+
+abbrev put : Slip → List Line → Slip × List Line
+put slip lines = (slip, lines)
+
+abbrev taken : Loaded → List ℕ → Loaded × List ℕ
+taken answer page = (answer, page)
 """
 
 
@@ -726,7 +610,8 @@ def definitions():
             if file.endswith('.antt') and file not in PASSED_OVER:
                 text = open('crates/%s/specs/%s' % (crate, file), encoding='utf8').read()
                 found = re.findall(r'^ *(abbrev|unfoldable) pub (\S+) :', text, re.M)
-                names.setdefault('Rattle.%s.specs.%s' % (crate, file[:-5]), []).extend(name for _, name in found)
+                own = [name for _, name in found if (crate, name) not in HIDDEN]
+                names.setdefault('Rattle.%s.specs.%s' % (crate, file[:-5]), []).extend(own)
                 shut += [name for way, name in found if way == 'unfoldable']
     names['lib.Ieee'] += LIBRARY
     return names, shut + LIBRARY
@@ -750,7 +635,7 @@ def write_crate(folder, crate, modules):
         write(folder, 'crates/%s/specs/%s.antt' % (crate, notion_name), ''.join(uses) + body)
     write(folder, 'crates/%s/specs/Lib.antt' % crate, ''.join('pub mod %s\n' % name for name in modules))
     write(folder, 'crates/%s/src/lib.rt' % crate, '// Nothing.\n')
-    write(folder, 'crates.txt', '%s: %s\n' % (crate, ' '.join(CRATES)), 'a')
+    write(folder, 'crates.txt', '%s: %s\n' % (crate, ' '.join(CRATES + LIBRARIES)), 'a')
 
 
 def copy_crates(folder):

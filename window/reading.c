@@ -26,20 +26,38 @@ enum input read_line(char line[LONGEST_LINE + 1])
     return input;
 }
 
-/* Cuts a line into words and gives their number; words beyond the room for them are counted together as one. */
-size_t cut_words(char *line, char *words[MOST_WORDS])
+/* What stands between words. */
+static const char BLANKS[] = " \t\r";
+
+/* Cuts a text behind its first word, which begins it, and gives what follows, from the next word on. */
+static char *behind_word(char *text)
 {
-    const char *blanks = " \t\r";
-    size_t count = 0;
-    char *rest = line + strspn(line, blanks);
-    while (*rest != '\0') {
-        words[count++] = rest;
-        rest += strcspn(rest, blanks);
-        if (count == MOST_WORDS || *rest == '\0') {
-            break;
-        }
+    char *rest = text + strcspn(text, BLANKS);
+    if (*rest != '\0') {
         *rest++ = '\0';
-        rest += strspn(rest, blanks);
+    }
+    return rest + strspn(rest, BLANKS);
+}
+
+/* The line is moved on to its first word; the blanks at the end of what follows are cut off. */
+char *cut_first(char **line)
+{
+    *line += strspn(*line, BLANKS);
+    char *rest = behind_word(*line);
+    size_t length = strlen(rest);
+    while (length > 0 && strchr(BLANKS, rest[length - 1]) != NULL) {
+        length--;
+    }
+    rest[length] = '\0';
+    return rest;
+}
+
+/* Cuts a text into words and gives their number; words beyond the room for them are counted together as one. */
+size_t cut_words(char *text, char *words[MOST_WORDS])
+{
+    size_t count = 0;
+    for (char *rest = text; *rest != '\0' && count < MOST_WORDS; rest = behind_word(rest)) {
+        words[count++] = rest;
     }
     return count;
 }

@@ -23,7 +23,22 @@ static const char *const REFUSALS[] = {
     [ZEMBRUSHA_BAD_INPUT] = "the input is not of its form",
     [ZEMBRUSHA_COLUMN_TOO_SHORT] = "the column is too short",
     [ZEMBRUSHA_NO_SUCH_KIND] = "no such kind of watch",
+    [ZEMBRUSHA_BAD_TEXT] = "the text is not of its form",
+    [ZEMBRUSHA_BUFFER_TOO_SHORT] = "the text buffer is too short",
 };
+
+/* What each line of a session's text has to be; the last stands for all that follow. */
+static const char *const TEXT_LINES[] = {
+    "degree= and the shape's degree, without needless zeros",
+    "shape= and a partition of at most 16, as shape=3,2",
+    "class= and a partition of at most 16, as class=3,2",
+    "steps= and a number below 2^63, without needless zeros",
+    "settled= and a number of 64 bits, without needless zeros and with a minus only where it is negative",
+    "lines= and the number of all lines after it, without needless zeros",
+    "line=, sign, and shape and class, partitions of at most 16, as line=-;1,1;2",
+};
+
+enum { TEXT_LINE_COUNT = sizeof TEXT_LINES / sizeof TEXT_LINES[0] };
 
 /* The number of the refusal, and its words. */
 void refuse(uint32_t refused)
@@ -35,4 +50,12 @@ void refuse(uint32_t refused)
 void refuse_input(const char *form)
 {
     printf("refused %d: %s (%s)\n", ZEMBRUSHA_BAD_INPUT, REFUSALS[ZEMBRUSHA_BAD_INPUT], form);
+}
+
+/* Refuses a session's text for its line of this number, from 1, and says what that line should be. */
+void refuse_text(uint64_t line)
+{
+    const char *form = TEXT_LINES[(line < TEXT_LINE_COUNT ? line : TEXT_LINE_COUNT) - 1];
+    printf("refused %d: %s: line %" PRIu64 " is not %s, and a newline\n", ZEMBRUSHA_BAD_TEXT,
+           REFUSALS[ZEMBRUSHA_BAD_TEXT], line, form);
 }

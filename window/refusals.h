@@ -10,4 +10,7 @@ void refuse(uint32_t refused);
 /* Refuses input that is not of its form, and says what form it should have. */
 void refuse_input(const char *form);
 
+/* Refuses a session's text for its line of this number, from 1, and says what that line should be. */
+void refuse_text(uint64_t line);
+
 #endif

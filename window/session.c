@@ -1,4 +1,4 @@
-/* session.c: a session of the library, opened for a shape and a class, struck, watched and shown. */
+/* session.c: a session of the library, opened for a shape and a class or taken up again, struck, watched and shown. */
 #include <inttypes.h>
 #include <stdio.h>
 
@@ -18,7 +18,16 @@ static int64_t settled_plus_waiting(const struct session *session)
     return watch(session, ZEMBRUSHA_SETTLED, 0) + watch(session, ZEMBRUSHA_WAITING, 0);
 }
 
-/* Keeps what the library hands back, and settled plus waiting, which no strike may change. */
+/* Keeps how the session begins and its slip, and settled plus waiting, which no strike may change. */
+static void begin_session(struct session *session, const char *beginning, struct zembrusha_slip slip)
+{
+    session->beginning = beginning;
+    session->slip = slip;
+    session->sum = settled_plus_waiting(session);
+    session->character = zembrusha_character(slip.shape, slip.class_word);
+}
+
+/* Keeps what the library hands back. */
 void open_session(struct session *session, uint32_t shape, uint32_t class)
 {
     struct zembrusha_handed handed = zembrusha_open(shape, class, session->page, ZEMBRUSHA_PAGE_LIMIT);
@@ -26,9 +35,17 @@ void open_session(struct session *session, uint32_t shape, uint32_t class)
         refuse(handed.refused);
         return;
     }
-    session->opened = true;
-    session->slip = handed.slip;
-    session->sum = settled_plus_waiting(session);
+    begin_session(session, "opening", handed.slip);
+}
+
+/* The slip of a text may be of a session that began with no opening: its sum is then another than the character. */
+void take_up_session(struct session *session, struct zembrusha_slip slip)
+{
+    begin_session(session, "load", slip);
+    if (session->sum != session->character) {
+        printf("this session began with no opening: settled plus waiting is %" PRId64 ", ", session->sum);
+        printf("the character is %" PRId64 "\n", session->character);
+    }
 }
 
 /* Keeps what the library hands back: where it refuses, the slip that was given. */
@@ -79,16 +96,16 @@ static void show_line(const struct session *session, uint64_t line, bool watched
     printf("\n");
 }
 
-/* The sum of the waiting lines, and whether settled plus waiting is what it was at the opening. */
+/* The sum of the waiting lines, and whether settled plus waiting is what it was at the beginning. */
 static void show_sums(const struct session *session)
 {
     int64_t sum = settled_plus_waiting(session);
     printf("sum of the waiting lines: %" PRId64 "\n", watch(session, ZEMBRUSHA_WAITING, 0));
     printf("settled plus waiting: %" PRId64 ", ", sum);
     if (sum == session->sum) {
-        printf("unchanged since the opening\n");
+        printf("unchanged since the %s\n", session->beginning);
     } else {
-        printf("CHANGED from %" PRId64 " at the opening\n", session->sum);
+        printf("CHANGED from %" PRId64 " at the %s\n", session->sum, session->beginning);
     }
 }
 
@@ -103,10 +120,21 @@ static bool may_watch(const struct session *session)
     return refused == 0;
 }
 
+/* What is settled where no line waits: the character, save in a session that began with no opening. */
+static void show_end(const struct session *session)
+{
+    int64_t settled = session->slip.settled;
+    if (settled == session->character) {
+        printf("no line waits: the character is %" PRId64 "\n", settled);
+    } else {
+        printf("no line waits: settled is %" PRId64 ", the character is %" PRId64 "\n", settled, session->character);
+    }
+}
+
 /* How the session stands, with signed characters, ratios and sums where they are wanted. */
 void show_session(const struct session *session, bool wanted)
 {
-    if (!session->opened) {
+    if (session->beginning == NULL) {
         printf("nothing is open\n");
         return;
     }
@@ -119,7 +147,7 @@ void show_session(const struct session *session, bool wanted)
         show_line(session, line, watched);
     }
     if (slip->lines == 0) {
-        printf("no line waits: the character is %" PRId64 "\n", slip->settled);
+        show_end(session);
     }
     if (watched) {
         show_sums(session);

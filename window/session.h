@@ -1,4 +1,4 @@
-/* session.h: a session of the library, opened for a shape and a class, struck, watched and shown. */
+/* session.h: a session of the library, opened for a shape and a class or taken up again, struck, watched and shown. */
 #ifndef SESSION_H
 #define SESSION_H
 
@@ -7,16 +7,21 @@
 
 #include "zembrusha.h"
 
-/* The session: whether one was opened, what the library handed back last, and settled plus waiting at the opening. */
+/* The session: how it began, "opening" or "load", or NULL where there is none; what the library handed back last;
+ * settled plus waiting at the beginning; and the character asked for, which is the same number after an opening. */
 struct session {
-    bool opened;
+    const char *beginning;
     struct zembrusha_slip slip;
     int64_t sum;
+    int64_t character;
     uint64_t page[ZEMBRUSHA_PAGE_LIMIT];
 };
 
 /* Opens a session for a shape and a class. Where it is refused, it says so, and the session stays as it was. */
 void open_session(struct session *session, uint32_t shape, uint32_t class);
+
+/* Takes up the session of a slip, the lines of which stand on the page already. */
+void take_up_session(struct session *session, struct zembrusha_slip slip);
 
 /* Strikes a cycle from a waiting line. Where it is refused, it says so, and the session stays as it was. */
 void strike_cycle(struct session *session, uint64_t line, uint64_t cycle);

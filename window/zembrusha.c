@@ -2,7 +2,8 @@
  * from waiting lines, and shows after each command how the session stands. It reads commands from a person at a
  * terminal, whom it prompts, or from a script on standard input. Every number comes from the library's calls.
  *
- * Here are the commands and the prompt; session.c and table.c do what is asked, reading.c reads what is typed. */
+ * Here are the commands and the prompt; session.c, storing.c and table.c do what is asked, reading.c reads what is
+ * typed. */
 #include <stdbool.h>
 #include <stddef.h>
 #include <stdint.h>
@@ -14,14 +15,18 @@
 #include "reading.h"
 #include "refusals.h"
 #include "session.h"
+#include "storing.h"
 #include "table.h"
 #include "zembrusha.h"
 
 /* What is to be done after a command. */
 enum after { SHOW_NOTHING, SHOW_SESSION, SHOW_WATCHED, QUIT };
 
-/* A command: its name, how many words follow, what it does, if anything, and what is done then; how it is written, and
- * what it is for. */
+/* What follows a command's name is so many words, or this, the rest of the line, blanks inside included. */
+enum { REST_OF_LINE = MOST_WORDS };
+
+/* A command: its name, what follows, what it does, if anything, and what is done then; how it is written, and what it
+ * is for. */
 struct command {
     const char *name;
     size_t arguments;
@@ -68,6 +73,18 @@ static void run_strike(struct session *session, char **arguments)
     }
 }
 
+/* Puts the session away in a file. */
+static void run_save(struct session *session, char **arguments)
+{
+    save_session(session, arguments[0]);
+}
+
+/* Takes up the session of a file. */
+static void run_load(struct session *session, char **arguments)
+{
+    load_session(session, arguments[0]);
+}
+
 /* Shows a character table, where its degree is read and is at most 16. */
 static void run_table(struct session *session, char **arguments)
 {
@@ -91,6 +108,8 @@ static const struct command COMMANDS[] = {
     {"strike", 2, run_strike, SHOW_SESSION, "strike LINE CYCLE", "strikes a cycle from a waiting line, as strike 0 3"},
     {"lines", 0, NULL, SHOW_SESSION, "lines", "shows the session and its waiting lines"},
     {"watch", 0, NULL, SHOW_WATCHED, "watch", "shows them with signed characters, ratios and sums"},
+    {"save", REST_OF_LINE, run_save, SHOW_SESSION, "save FILE", "puts the session away in a file, as save friday.txt"},
+    {"load", REST_OF_LINE, run_load, SHOW_SESSION, "load FILE", "takes it up again, in the place of this one"},
     {"character", 2, run_character, SHOW_SESSION, "character SHAPE CLASS", "shows one character, as character 3,2 5"},
     {"table", 1, run_table, SHOW_SESSION, "table N", "shows the character table of degree N, a row to a class"},
     {"help", 0, run_help, SHOW_SESSION, "help", "shows this"},
@@ -109,6 +128,7 @@ static void run_help(struct session *session, char **arguments)
     }
     printf("SHAPE and CLASS are parts, longest first, or words, as 0x2C000000; the empty partition is 0x0.\n");
     printf("LINE is the number of a waiting line, from 0; CYCLE is one of the numbers shown after strike.\n");
+    printf("FILE is the rest of the line, blanks inside it included.\n");
 }
 
 /* The command of a name; NULL where there is none. */
@@ -124,25 +144,35 @@ static const struct command *find_command(const char *name)
 
 /* ---- The prompt. */
 
+/* Cuts what follows a command's name; whether it is what the command wants. */
+static bool cut_arguments(const struct command *command, char *rest, char *arguments[MOST_WORDS])
+{
+    if (command->arguments == REST_OF_LINE) {
+        arguments[0] = rest;
+        return *rest != '\0';
+    }
+    return cut_words(rest, arguments) == command->arguments;
+}
+
 /* Runs the command that a line has. */
 static enum after run_line(struct session *session, char *line)
 {
-    char *words[MOST_WORDS];
-    size_t count = cut_words(line, words);
-    if (count == 0) {
+    char *arguments[MOST_WORDS];
+    char *rest = cut_first(&line);
+    if (*line == '\0') {
         return SHOW_NOTHING;
     }
-    const struct command *command = find_command(words[0]);
+    const struct command *command = find_command(line);
     if (command == NULL) {
         refuse_input("help lists the commands");
         return SHOW_SESSION;
     }
-    if (count != 1 + command->arguments) {
+    if (!cut_arguments(command, rest, arguments)) {
         refuse_input(command->form);
         return SHOW_SESSION;
     }
     if (command->run != NULL) {
-        command->run(session, words + 1);
+        command->run(session, arguments);
     }
     return command->after;
 }
@@ -159,7 +189,7 @@ static enum after answer(struct session *session, bool person)
     case LINE_READ:
         return run_line(session, line);
     case LINE_BROKEN:
-        refuse_input("a line of at most 200 characters, none of them a zero byte");
+        refuse_input("a line of at most 1000 characters, none of them a zero byte");
         return SHOW_SESSION;
     default:
         fputs(person ? "\n" : "", stdout);

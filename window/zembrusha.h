@@ -5,8 +5,8 @@
  * one of the numbers below. A refused value, word or count is 0, and a refused call writes nothing.
  *
  * A lent run is a pointer and then a length in elements. The pointer is good for that many elements and is not NULL,
- * even where the length is 0; nothing outside the run is read or written. The library keeps no state and allocates
- * nothing, so calls on different runs may be made at the same time. */
+ * even where the length is 0; nothing outside the run is read or written. Two runs lent to one call do not overlap. The
+ * library keeps no state and allocates nothing, so calls on different runs may be made at the same time. */
 #ifndef ZEMBRUSHA_H
 #define ZEMBRUSHA_H
 
@@ -25,12 +25,14 @@ enum zembrusha_refusal {
     ZEMBRUSHA_NOT_SOUND = 7,         /* slip and page not sound */
     ZEMBRUSHA_NO_SUCH_LINE = 8,      /* no such line */
     ZEMBRUSHA_NO_SUCH_CYCLE = 9,     /* the line's class has no such cycle (0 included) */
-    ZEMBRUSHA_PAGE_FULL = 10,        /* opening or step would hold more lines than the page has words */
+    ZEMBRUSHA_PAGE_FULL = 10,        /* opening, step or load would hold more lines than the page has words */
     ZEMBRUSHA_NO_SUCH_RANK = 11,     /* rank not in the list */
     ZEMBRUSHA_DEGREE_TOO_LARGE = 12, /* listing or table degree above 16 */
     ZEMBRUSHA_BAD_INPUT = 13,        /* program input not of its form */
     ZEMBRUSHA_COLUMN_TOO_SHORT = 14, /* column shorter than the list, or than the parts to be written */
-    ZEMBRUSHA_NO_SUCH_KIND = 15      /* watch kind not 1 to 5 */
+    ZEMBRUSHA_NO_SUCH_KIND = 15,     /* watch kind not 1 to 5 */
+    ZEMBRUSHA_BAD_TEXT = 16,         /* session's text not of its form: zembrusha_load says at which of its lines */
+    ZEMBRUSHA_BUFFER_TOO_SHORT = 17  /* text buffer too short for the session's text */
 };
 
 /* The kinds of watches. */
@@ -42,11 +44,14 @@ enum zembrusha_kind {
     ZEMBRUSHA_STEPS = 5           /* whole: the steps so far */
 };
 
-/* The largest degree, the longest page, and how many partitions the largest degree has (the longest column). */
+/* The largest degree, the longest page, how many partitions the largest degree has (the longest column), and as many
+ * bytes as are enough for every session's text: its first six lines have fewer than 256 together, and each waiting line
+ * has fewer than 72, since a partition has at most 31, sixteen ones and the commas between them. 256 + 4,096 * 72. */
 enum zembrusha_limit {
     ZEMBRUSHA_DEGREE_LIMIT = 16,
     ZEMBRUSHA_PAGE_LIMIT = 4096,
-    ZEMBRUSHA_LONGEST_COLUMN = 231
+    ZEMBRUSHA_LONGEST_COLUMN = 231,
+    ZEMBRUSHA_TEXT_ROOM = 295168
 };
 
 /* A word or a count, with the refusal number in front; the number is 0 when refused. */
@@ -67,6 +72,14 @@ struct zembrusha_slip {
 /* A slip that is handed back, with the refusal number in front. */
 struct zembrusha_handed {
     uint32_t refused;
+    struct zembrusha_slip slip;
+};
+
+/* A slip that is read from a text, with the refusal number in front, and the text's line that 16 is given for, from 1;
+ * the line is 0 for every other answer. */
+struct zembrusha_loaded {
+    uint32_t refused;
+    uint64_t line;
     struct zembrusha_slip slip;
 };
 
@@ -158,5 +171,31 @@ double zembrusha_watch_ratio(
 /* Why a watch is refused, or 0. */
 uint32_t zembrusha_watch_refusal(
     struct zembrusha_slip slip, const uint64_t *page, size_t words, uint64_t kind, uint64_t line);
+
+/* ---- A session as text, to be put away and taken up again. A session has one text, and a text one session. Each line
+ * ends in a newline; the last stands for as many as wait, each with its sign, its shape and its class:
+ *
+ *     degree=5
+ *     shape=3,2
+ *     class=3,2
+ *     steps=1
+ *     settled=0
+ *     lines=1
+ *     line=-;1,1;2
+ *
+ * Numbers are decimal with no needless zero, and only a negative settled has a minus. A partition is its parts, longest
+ * first, with commas between them; the empty one is nothing. No zero byte stands at the end. */
+
+/* Writes the session's text to the front of the text, and gives its length; the rest of the text stays.
+ * ZEMBRUSHA_TEXT_ROOM bytes are always enough. Refuses 6, 7, 17. */
+struct zembrusha_number zembrusha_save(
+    struct zembrusha_slip slip, const uint64_t *page, size_t words, uint8_t *text, size_t length);
+
+/* Reads a text of any length: its waiting lines to the page, zeros after them. Refuses 6, 16, 10, 7, with a slip of
+ * zeros. 16 comes with the first line that is lacking, not of its form or without its newline, or that has a list which
+ * is no partition of 0 to 16, a number too big to hold (degree in 64 bits; steps and settled in 64 with a sign), a
+ * degree other than the shape's, or a count other than that of all lines after it. A text that is not as it was saved
+ * may be read too, as a sound session of which settled plus waiting need not be the character asked for. */
+struct zembrusha_loaded zembrusha_load(const uint8_t *text, size_t length, uint64_t *page, size_t words);
 
 #endif

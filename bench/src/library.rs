@@ -6,7 +6,7 @@ pub struct Number {
 }
 
 #[repr(C)]
-#[derive(Clone, Copy)]
+#[derive(Clone, Copy, PartialEq)]
 pub struct Slip {
     pub shape: u32,
     pub class_word: u32,
@@ -21,9 +21,18 @@ pub struct Handed {
     pub slip: Slip,
 }
 
+#[repr(C)]
+pub struct Loaded {
+    pub refused: u32,
+    pub line: u64,
+    pub slip: Slip,
+}
+
 extern "C" {
     fn zembrusha_step(slip: Slip, page: *mut u64, words: usize, line: u64, cycle: u64) -> Handed;
     fn zembrusha_watch_whole(slip: Slip, page: *const u64, words: usize, kind: u64, line: u64) -> i64;
+    fn zembrusha_save(slip: Slip, page: *const u64, words: usize, text: *mut u8, length: usize) -> Number;
+    fn zembrusha_load(text: *const u8, length: usize, page: *mut u64, words: usize) -> Loaded;
     fn zembrusha_column(class: u32, values: *mut i64, length: usize) -> Number;
     fn zembrusha_character(shape: u32, class: u32) -> i64;
 }
@@ -43,4 +52,13 @@ pub fn step(slip: Slip, page: &mut [u64], line: u64, cycle: u64) -> (u32, Slip) 
 
 pub fn watch_whole(slip: Slip, page: &[u64], kind: u64, line: u64) -> i64 {
     unsafe { zembrusha_watch_whole(slip, page.as_ptr(), page.len(), kind, line) }
+}
+
+pub fn save(slip: Slip, page: &[u64], text: &mut [u8]) -> (u32, usize) {
+    let answer = unsafe { zembrusha_save(slip, page.as_ptr(), page.len(), text.as_mut_ptr(), text.len()) };
+    (answer.refused, answer.number as usize)
+}
+
+pub fn load(text: &[u8], page: &mut [u64]) -> Loaded {
+    unsafe { zembrusha_load(text.as_ptr(), text.len(), page.as_mut_ptr(), page.len()) }
 }

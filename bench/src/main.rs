@@ -1,6 +1,9 @@
 // Times of the library beside its peers, in one run on one machine. `bench/run` builds and starts it.
 mod library;
 mod sessions;
+mod soundness;
+mod storing;
+mod text;
 mod twin;
 
 use std::process::Command;
@@ -122,4 +125,8 @@ fn main() {
     whole_tables(&gap, &symmetrica);
     single_characters(&symmetrica);
     sessions::times(|runs, work| best(runs, work), shape_word, class_word);
+    let eights = partitions(8, 8);
+    let shapes: Vec<u32> = eights.iter().map(|parts| shape_word(parts)).collect();
+    let classes: Vec<u32> = eights.iter().map(|parts| class_word(parts)).collect();
+    storing::times(|runs, work| best(runs, work), &shapes, &classes, (shape_word(&[16]), class_word(&[16])));
 }

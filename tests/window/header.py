@@ -14,7 +14,8 @@ NUMBERS = {
 }
 STRUCTS = {
     'struct zembrusha_number': 'number', 'struct zembrusha_slip': 'slip', 'struct zembrusha_handed': 'handed',
-    'Number': 'number', 'Slip': 'slip', 'CSlip': 'slip', 'Handed': 'handed',
+    'struct zembrusha_loaded': 'loaded',
+    'Number': 'number', 'Slip': 'slip', 'CSlip': 'slip', 'Handed': 'handed', 'Loaded': 'loaded',
 }
 TYPES = NUMBERS | STRUCTS
 
@@ -22,7 +23,8 @@ TYPES = NUMBERS | STRUCTS
 KINDS = ['LINE_CHARACTER', 'LINE_RATIO', 'SETTLED', 'WAITING', 'STEPS']
 CONSTANTS = {
     'kind': {name: number for number, name in enumerate(KINDS, 1)},
-    'limit': {'DEGREE_LIMIT': 16, 'PAGE_LIMIT': 4096, 'LONGEST_COLUMN': 231},
+    'limit': {'DEGREE_LIMIT': 16, 'PAGE_LIMIT': 4096, 'LONGEST_COLUMN': 231,
+              'TEXT_ROOM': 256 + 4096 * 72},
 }
 
 # What changes a header so that it no longer fits: a pattern and what takes its place, once.
@@ -38,6 +40,8 @@ CHANGES = [
     (r'zembrusha_class_sign\(', 'zembrusha_sign('),
     (r'int64_t settled;\s*uint64_t lines;', 'uint64_t lines; int64_t settled;'),
     (r'uint32_t class_word;', 'uint64_t class_word;'),
+    (r'const uint8_t \*text', 'uint8_t *text'),
+    (r'uint64_t line;\s*struct zembrusha_slip slip;', 'struct zembrusha_slip slip; uint64_t line;'),
 ]
 
 
@@ -151,7 +155,7 @@ def faults(header, archive, rust, rattle):
     if archive_names(archive) != set(ours.functions):
         yield f'archive: {sorted(archive_names(archive) ^ set(ours.functions))} on one side only'
     yield from (f'no comment over {name}' for name in commented(header))
-    if refusals(header) != list(range(16)):
+    if refusals(header) != list(range(18)):
         yield f'refusal numbers: {refusals(header)}'
     for kind, named in CONSTANTS.items():
         if constants(header, kind) != named:

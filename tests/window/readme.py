@@ -24,7 +24,9 @@ def typed_and_shown(text):
 def follow_sessions(program, text):
     typed, shown = typed_and_shown(text)
     script = '\n'.join(typed)
-    answer = subprocess.run([program], input=script, capture_output=True, text=True, check=True).stdout
+    with tempfile.TemporaryDirectory() as room:
+        answer = subprocess.run([os.path.abspath(program)], input=script, capture_output=True, text=True, check=True,
+                                cwd=room).stdout
     if not typed or answer.splitlines() != shown:
         sys.exit(f'readme: the window shows\n{answer}')
 

@@ -20,11 +20,11 @@ use Rattle.words.specs.declared.NumberAnswer.{NumberAnswer}
 use Rattle.words.specs.Calls.{classPartsInto, classDegree}
 use Rattle.words.proofs.Answers.{column-refused, column-short, column-filled}
 use Rattle.words.proofs.Callers.{FrontGiven, number-given-by}
+use Rattle.listing.proofs.Ranks.{blank, class-refusal, parts-of-class}
+use Rattle.pages.proofs.WordPairs.{refused-is}
+use Rattle.pages.proofs.Signed.{carried, carried-is}
 use Rattle.characters.specs.Calls.{columnInto}
 use Rattle.characters.specs.Private.Columns.{Cycles}
-use Rattle.characters.proofs.WordPairs.{refused-is}
-use Rattle.listing.proofs.Ranks.{blank, class-refusal, parts-of-class}
-use Rattle.characters.proofs.Signed.{carried, carried-is}
 
 pub refused-class : (limit w : ℕ) (a : NumberAnswer) → a ≡ classDegree limit w → (values : List ℤ)
     → (a .refused ≡ 0 → ⊥) → Outcome (columnInto limit w values) (countAnswer (a .refused) 0) values

@@ -28,8 +28,8 @@ use Rattle.theory.specs.Bounds.{factorial}
 use Rattle.theory.specs.Bounds.Laws.{abs-add, abs-signed, largestLimit}
 use Rattle.theory.specs.Refusals.Laws.{Within}
 use Rattle.words.proofs.Factorials.{factorial-fits}
+use Rattle.pages.proofs.Signed.{carried, carried-is}
 use Rattle.characters.specs.Private.Evaluation.{hookSum}
-use Rattle.characters.proofs.Signed.{carried, carried-is}
 
 module _ (value : ℕ → ℤ) (s h : ℕ) where
   abbrev counts : ℕ → ℤ

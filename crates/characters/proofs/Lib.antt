@@ -1,15 +1,10 @@
-pub mod WordPairs
-pub mod Signed
 pub mod HookSums
 pub mod Walks
+pub mod Evaluables
+pub mod LineValues
 pub mod Cycles
-pub mod SoundLines
 pub mod Sums
 pub mod Strips
-pub mod SpanTable
-pub mod Zeros
-pub mod Budgets
-pub mod SoundPages
 pub mod Pages
 pub mod Openings
 pub mod Steps

@@ -25,11 +25,11 @@ use Rattle.theory.specs.Listing.Words.{start-rises, index, indexed, ranked-at}
 use Rattle.theory.specs.Refusals.Laws.{Within}
 use Rattle.words.proofs.PartLists.{next-left, degree-left}
 use Rattle.listing.specs.Calls.{wordsWithin}
+use Rattle.pages.proofs.Signed.{carried}
 use Rattle.characters.specs.Private.Evaluation.{Evaluable, hookSum}
 use Rattle.characters.specs.Private.Places.{Places}
 use Rattle.characters.specs.Private.Columns.{entry, Cycles, Kept}
 use Rattle.characters.proofs.PlaceLaws.{Placed}
-use Rattle.characters.proofs.Signed.{carried}
 use Rattle.characters.proofs.Walks.{shape-within, widened, character-bounded, character-carried}
 use Rattle.characters.proofs.Walks.{cycle-long, evaluable-left, hook-rule-holds}
 use Rattle.characters.proofs.KeptTables.{ranked-evaluable, set-same, set-other, set-form}

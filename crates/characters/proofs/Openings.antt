@@ -11,9 +11,9 @@ use Rattle.theory.specs.ShapeWord.{shapeOf}
 use Rattle.theory.specs.Refusals.{Check, firstOf, pairChecks, no-6, no-10}
 use Rattle.theory.specs.Refusals.Laws.{first-refuses, first-passes, or-refused}
 use Rattle.words.specs.Answers.{Outcome}
-use Rattle.characters.specs.Page.{wordOf, slipOf, blank, handed, Handed}
-use Rattle.characters.specs.Page.Words.{plain}
-use Rattle.characters.specs.Opening.{firstLines, opening}
+use Rattle.pages.specs.Page.{wordOf, slipOf, blank}
+use Rattle.pages.specs.Page.{plain}
+use Rattle.characters.specs.Opening.{handed, firstLines, opening, Handed}
 
 set-first : (n w : ℕ) → (n ≡ 0 → ⊥) → set (replicate n 0) 0 w ≡ w ∷ replicate (n - 1) 0
 set-first zero w some = absurd (some refl)

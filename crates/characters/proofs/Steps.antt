@@ -9,16 +9,17 @@ use Rattle.theory.specs.Partition.{times, without}
 use Rattle.theory.specs.ClassWord.{classWord, classOf}
 use Rattle.theory.specs.Refusals.{Check, firstOf, no-8, no-9}
 use Rattle.theory.specs.Refusals.Laws.{first-refuses, first-passes, or-refused, answer-number, answer-given}
+use Rattle.pages.specs.Line.{Line}
+use Rattle.pages.specs.declared.Slip.{Slip}
+use Rattle.pages.specs.Page.{lineOf, waiting, lineAt}
+use Rattle.pages.specs.Sound.{pageChecks}
+use Rattle.pages.proofs.SoundPages.{line-word}
 use Rattle.characters.specs.declared.lines.WithoutCycle.{WithoutCycle}
 use Rattle.characters.specs.declared.sessions.ClassLeft.{ClassLeft}
-use Rattle.characters.specs.Line.{Line}
-use Rattle.characters.specs.Page.{lineOf, waiting, lineAt, Slip}
-use Rattle.characters.specs.Sound.{pageChecks}
 use Rattle.characters.specs.Step.{namedChecks}
 use Rattle.characters.specs.Step.Laws.{NamedOn, named-on}
 use Rattle.characters.specs.Private.ClassLeft.{classLeft, classLeftOf}
 use Rattle.characters.specs.Private.Striking.{classWithout}
-use Rattle.characters.proofs.SoundPages.{line-word}
 
 module _ (limit : ℕ) (slip : Slip) (page : List ℕ) (line cycle : ℕ) where
   abbrev chosen : Line

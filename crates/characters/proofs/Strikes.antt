@@ -9,7 +9,7 @@ use borrow.Author.Tests.{lt-ltb, le-ltb}
 use lib.ListN.{length-append, length-map}
 use lib.Seq.{take-at, length-take-le}
 use Rattle.theory.specs.Basics.{not, List, [], _∷_, _++_, map, length, getD, take, drop, ℕ, suc, _+_, _-_, _^_}
-use Rattle.theory.specs.Basics.{ℤ, pos, _+ℤ_, natAbs, sum}
+use Rattle.theory.specs.Basics.{pos, _+ℤ_, natAbs, sum}
 use Rattle.theory.specs.Basics.Keep.{length-keep}
 use Rattle.theory.specs.Partition.{without}
 use Rattle.theory.specs.ClassWord.{classWord, classOf}
@@ -19,23 +19,25 @@ use Rattle.theory.specs.Refusals.{Check, firstOf, no-10}
 use Rattle.theory.specs.Refusals.Laws.{first-refuses, first-passes, or-refused}
 use Rattle.words.specs.Answers.{Outcome}
 use Rattle.words.proofs.Factorials.{factorial-fits}
+use Rattle.pages.specs.Line.{Line, hookLines}
+use Rattle.pages.specs.Line.Hooks.{hook-lines-few}
+use Rattle.pages.specs.Line.Weights.{weightOf}
+use Rattle.pages.specs.declared.Slip.{Slip}
+use Rattle.pages.specs.Page.{lineOf, wordOf, waiting, lineAt, padded, slipOf}
+use Rattle.pages.specs.Page.Words.{map-take, map-drop, front-read}
+use Rattle.pages.specs.Sound.Laws.{line-wider, asked}
+use Rattle.pages.specs.Sound.Bounds.{asked-within}
+use Rattle.pages.proofs.Signed.{carried, carried-is}
+use Rattle.pages.proofs.SoundPages.{line-word, sound-line-at}
 use Rattle.characters.specs.declared.lines.HookLines.{HookLines}
 use Rattle.characters.specs.declared.sessions.ClassLeft.{ClassLeft}
-use Rattle.characters.specs.Line.{Line, hookLines}
-use Rattle.characters.specs.Line.Hooks.{hook-lines-few}
-use Rattle.characters.specs.Line.Weights.{weightOf}
-use Rattle.characters.specs.Page.{lineOf, wordOf, waiting, lineAt, padded, slipOf, handed, Slip, Handed}
-use Rattle.characters.specs.Page.Words.{map-take, map-drop, front-read}
-use Rattle.characters.specs.Sound.Laws.{line-wider, asked}
-use Rattle.characters.specs.Sound.Bounds.{asked-within}
+use Rattle.characters.specs.Opening.{handed, Handed}
 use Rattle.characters.specs.Step.{empty, settledHooks, waitingHooks, nextLines, nextSlip, namedChecks, step}
 use Rattle.characters.specs.Step.Named.{settled-room, next-length}
 use Rattle.characters.specs.Step.Laws.{NamedOn}
 use Rattle.characters.specs.Private.ClassLeft.{classLeftOf}
 use Rattle.characters.specs.Private.Pages.{others, Exchanges, exchanged}
 use Rattle.characters.specs.Private.Striking.{Strikes, stripped}
-use Rattle.characters.proofs.Signed.{carried, carried-is}
-use Rattle.characters.proofs.SoundPages.{line-word, sound-line-at}
 use Rattle.characters.proofs.Steps.{number}
 
 module _ (limit : ℕ) (small : limit ≤ largestLimit) (slip : Slip) (page : List ℕ) (line cycle : ℕ) where

@@ -27,15 +27,15 @@ use Rattle.theory.specs.Hooks.Marks.Walk.{Begun, highest, places-none, marks-be
 use Rattle.theory.specs.Bounds.Laws.{abs-add, abs-signed, largestLimit}
 use Rattle.words.specs.Answers.{Outcome}
 use Rattle.words.proofs.Columns.{Putting, put-start, put-next, put-all}
-use Rattle.characters.specs.Line.{Line, hookLine, hookLines}
-use Rattle.characters.specs.Line.Hooks.{hook-lines-few}
-use Rattle.characters.specs.Line.Weights.{weightOf}
-use Rattle.characters.specs.Page.{lineOf, wordOf}
-use Rattle.characters.specs.Page.Words.{plain}
+use Rattle.pages.specs.Line.{Line, hookLine, hookLines}
+use Rattle.pages.specs.Line.Hooks.{hook-lines-few}
+use Rattle.pages.specs.Line.Weights.{weightOf}
+use Rattle.pages.specs.Page.{lineOf, wordOf}
+use Rattle.pages.specs.Page.{plain}
+use Rattle.pages.proofs.Signed.{carried, carried-is}
 use Rattle.characters.specs.Step.{empty, settledHooks, waitingHooks}
 use Rattle.characters.specs.Step.Strike.{cycle-positive}
 use Rattle.characters.specs.Private.Striking.{multiplied, Strikes, hookCount, stripped}
-use Rattle.characters.proofs.Signed.{carried, carried-is}
 
 abbrev waits : Line → Bool
 waits y = not (empty y)

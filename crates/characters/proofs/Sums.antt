@@ -11,12 +11,12 @@ use lib.Seq.{drop-cons}
 use Rattle.theory.specs.Basics.{List, _∷_, map, length, getD, drop, ℕ, _+_, _^_, ℤ, pos, _+ℤ_, natAbs, sum}
 use Rattle.theory.specs.Basics.Laws.{Each}
 use Rattle.theory.specs.Bounds.Laws.{abs-add}
-use Rattle.characters.specs.Line.{Line, signedCharacter}
-use Rattle.characters.specs.Page.{lineOf}
-use Rattle.characters.specs.Sound.{lineValue}
-use Rattle.characters.specs.Sound.Laws.{SoundLine, values}
-use Rattle.characters.specs.Sound.Bounds.{line-bounded}
-use Rattle.characters.proofs.Signed.{carried, carried-is}
+use Rattle.pages.specs.Line.{Line, signedCharacter}
+use Rattle.pages.specs.Page.{lineOf}
+use Rattle.pages.specs.Sound.{lineValue}
+use Rattle.pages.specs.Sound.Laws.{SoundLine, values}
+use Rattle.pages.specs.Sound.Bounds.{line-bounded}
+use Rattle.pages.proofs.Signed.{carried, carried-is}
 
 module _ (limit : ℕ) (words : List ℕ) where
   abbrev left : ℕ → List Line

@@ -11,6 +11,7 @@ use Rattle.characters.proofs.character.Reads as character
 use Rattle.characters.proofs.character_degree.Reads as character-degree
 use Rattle.characters.proofs.column.Reads as column
 use Rattle.characters.proofs.sessions.open.Reads as open-session
+use Rattle.characters.proofs.sessions.page_refusal.Reads as page-refusal
 use Rattle.characters.proofs.sessions.step.Reads as step-session
 use Rattle.characters.proofs.sessions.watch.Reads as watch-session
 
@@ -31,6 +32,10 @@ column-once κs a r r′ s s′ p q = one-outcome (columnInto degreeLimit (a .0)
 pub open-once : (κs : _) (a : _) (r r′ : _) (s s′ : _) → open-session.Post κs a r s → open-session.Post κs a r′ s′
     → (r ≡ r′) × (now (s .1 .1 .0) ≡ now (s′ .1 .1 .0))
 open-once κs a r r′ s s′ p q = one-outcome (opening degreeLimit (a .0) (a .1 .0) (now (a .1 .1 .0))) p q
+
+pub page-refusal-once : (κs : _) (a : _) (r r′ : _) (s s′ : _) → page-refusal.Post κs a r s
+    → page-refusal.Post κs a r′ s′ → r ≡ r′
+page-refusal-once κs a r r′ s s′ p q = p ∙ sym q
 
 pub step-once : (κs : _) (a : _) (r r′ : _) (s s′ : _) → step-session.Post κs a r s → step-session.Post κs a r′ s′
     → (r ≡ r′) × (now (s .1 .0) ≡ now (s′ .1 .0))

@@ -24,10 +24,10 @@ use Rattle.theory.specs.Bounds.{factorial}
 use Rattle.theory.specs.Hooks.Bounds.{word-bounded}
 use Rattle.theory.specs.Bounds.Laws.{largestLimit}
 use Rattle.theory.specs.Refusals.Laws.{Within}
-use Rattle.characters.specs.Private.Evaluation.{Evaluable, hookSum}
-use Rattle.characters.proofs.Signed.{carried, carried-is}
-use Rattle.characters.proofs.HookSums.{Walk}
 use Rattle.words.proofs.Factorials.{factorial-fits}
+use Rattle.pages.proofs.Signed.{carried, carried-is}
+use Rattle.characters.specs.Private.Evaluation.{Evaluable, hookSum}
+use Rattle.characters.proofs.HookSums.{Walk}
 
 -- ---- what can be evaluated
 module _ {limit s : ℕ} {cs : Parts} (e : Evaluable limit s cs) where

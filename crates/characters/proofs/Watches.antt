@@ -17,17 +17,18 @@ use Rattle.theory.specs.Refusals.Laws.{both-pass, first-refuses, first-passes, 
 use Rattle.words.specs.Answers.{numberAnswer}
 use Rattle.words.specs.declared.NumberAnswer.{NumberAnswer}
 use Rattle.words.proofs.Factorials.{factorial-fits}
+use Rattle.pages.specs.Line.{lineDegree, signedCharacter}
+use Rattle.pages.specs.declared.Slip.{Slip}
+use Rattle.pages.specs.Page.{lineOf, waiting}
+use Rattle.pages.specs.Page.Words.{unit-weight}
+use Rattle.pages.specs.Sound.{lineValue, pageChecks}
+use Rattle.pages.specs.Sound.Laws.{SoundLine, line-wider, asked, values, Sound, page-passed}
+use Rattle.pages.specs.Sound.Bounds.{asked-within, line-bounded, lines-bounded}
+use Rattle.pages.proofs.Signed.{carried, carried-is}
+use Rattle.pages.proofs.SoundLines.{word-value}
 use Rattle.characters.specs.Calls.{shapeCharacterDegree}
-use Rattle.characters.specs.Line.{lineDegree, signedCharacter}
-use Rattle.characters.specs.Page.{lineOf, waiting, Slip}
-use Rattle.characters.specs.Page.Words.{unit-weight}
-use Rattle.characters.specs.Sound.{lineValue, pageChecks}
-use Rattle.characters.specs.Sound.Laws.{SoundLine, line-wider, asked, values, Sound, page-passed}
-use Rattle.characters.specs.Sound.Bounds.{asked-within, line-bounded, lines-bounded}
 use Rattle.characters.specs.Watch.{Value, none, ratio, shown, watchChecks, watch}
 use Rattle.characters.specs.Watch.Ratios.{ratioLimit, Exact, line-exact}
-use Rattle.characters.proofs.Signed.{carried, carried-is}
-use Rattle.characters.proofs.SoundLines.{word-value}
 
 module _ (limit : ℕ) (slip : Slip) (page : List ℕ) (kind line : ℕ) where
   -- ---- why a watch is refused

@@ -9,8 +9,8 @@ use Rattle.theory.specs.ShapeWord.{shapeWord, shapeOf}
 use Rattle.theory.specs.ClassWord.{classWord, classOf}
 use Rattle.theory.specs.Refusals.{firstOf, shapeChecks, classChecks}
 use Rattle.theory.specs.Limits.{degreeLimit}
-use Rattle.characters.specs.Page.{slipOf, handed, Handed}
-use Rattle.characters.specs.Opening.{opening}
+use Rattle.pages.specs.Page.{slipOf}
+use Rattle.characters.specs.Opening.{handed, opening, Handed}
 use Rattle.characters.specs.Step.{step}
 pub mod Proved
 

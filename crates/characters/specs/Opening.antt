@@ -1,13 +1,19 @@
 -- Opening (document 01, "Slip and page", second paragraph; "Opening: those, then 6, 10"; "A refused opening's slip").
+--   handed k slip      a slip with the refusal number k beside it
 --   firstLines s c     one line with a plus sign, none at degree 0; firstSettled s, 1 at degree 0, else 0
 --   opening ..         what an opening answers, by openingChecks, and the page that it leaves
 use Rattle.theory.specs.Basics.{cond, List, [], _∷_, _++_, length, ℕ, ℤ, pos, _=?_}
 use Rattle.theory.specs.Partition.{degree}
 use Rattle.theory.specs.ShapeWord.{shapeOf}
 use Rattle.theory.specs.Refusals.{Check, firstOf, refusedOr, pairChecks, no-6, no-10}
-use Rattle.characters.specs.Line.{Line}
-use Rattle.characters.specs.Page.{padded, slipOf, blank, handed, Handed}
+use Rattle.pages.specs.Line.{Line}
+use Rattle.pages.specs.declared.Slip.{Slip}
+use Rattle.pages.specs.Page.{padded, slipOf, blank}
+pub use Rattle.characters.specs.declared.Handed.{Handed}
 pub mod Laws
+
+abbrev pub handed : ℕ → Slip → Handed
+handed k slip = record { refused = k; slip = slip }
 
 abbrev pub firstLines : ℕ → ℕ → List Line
 firstLines s c = cond (degree (shapeOf s) =? 0) [] (record { weight = pos 1; shape = s; class = c } ∷ [])

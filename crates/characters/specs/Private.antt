@@ -1,10 +1,8 @@
 -- What only the code needs: definitions that the contracts of private functions cite. Nobody has to believe them.
-pub mod Pairs
 pub mod Evaluation
 pub mod Displacements
 pub mod Places
 pub mod Columns
-pub mod Tables
 pub mod Striking
 pub mod Pages
 pub mod ClassLeft

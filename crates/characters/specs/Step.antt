@@ -7,9 +7,11 @@
 use Rattle.theory.specs.Basics.{Bool, not, List, [], _∷_, _++_, length, take, drop, ℕ, suc, pos, _+ℤ_, _=?_, keep, sum}
 use Rattle.theory.specs.ClassWord.{classOf}
 use Rattle.theory.specs.Refusals.{Check, firstOf, refusedOr, no-8, no-9, no-10}
-use Rattle.characters.specs.Line.{Line, hookLines}
-use Rattle.characters.specs.Page.{waiting, lineAt, padded, slipOf, handed, Slip, Handed}
-use Rattle.characters.specs.Sound.{pageChecks}
+use Rattle.pages.specs.Line.{Line, hookLines}
+use Rattle.pages.specs.declared.Slip.{Slip}
+use Rattle.pages.specs.Page.{waiting, lineAt, padded, slipOf}
+use Rattle.pages.specs.Sound.{pageChecks}
+use Rattle.characters.specs.Opening.{handed, Handed}
 pub mod Strike
 pub mod Named
 pub mod Laws

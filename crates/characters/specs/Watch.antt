@@ -9,11 +9,12 @@ use Rattle.theory.specs.Basics.{cond, List, [], _∷_, _++_, ℕ, zero, suc, �
 use Rattle.theory.specs.ShapeWord.{shapeOf}
 use Rattle.theory.specs.Character.{characterDegree}
 use Rattle.theory.specs.Refusals.{Check, firstOf, refusedOr, no-8, no-15}
+use Rattle.pages.specs.Line.{Line, signedCharacter}
+use Rattle.pages.specs.declared.Slip.{Slip}
+use Rattle.pages.specs.Page.{waiting, lineAt}
+use Rattle.pages.specs.Sound.{pageChecks}
 use Rattle.characters.specs.declared.Watched.{Watched}
 use Rattle.characters.specs.declared.Watched.the-variants.{Whole, Ratio, Refused}
-use Rattle.characters.specs.Line.{Line, signedCharacter}
-use Rattle.characters.specs.Page.{waiting, lineAt, Slip}
-use Rattle.characters.specs.Sound.{pageChecks}
 pub mod Answers
 pub mod Ratios
 

@@ -8,6 +8,8 @@ ghost use Rattle.theory.specs.Limits.{degreeLimit};
 ghost use Rattle.theory.specs.Bounds.Laws.{largestLimit};
 ghost use Rattle.words.specs.Answers.{Outcome};
 ghost use Rattle.characters.specs.Calls.{characterOf, shapeCharacterDegree, columnInto};
+use pages::Slip;
+use pages::pairs;
 use words::CountAnswer;
 use words::NumberAnswer;
 
@@ -17,19 +19,8 @@ mod hooks;
 mod lines;
 mod lookup;
 mod page;
-mod pairs;
 pub mod sessions;
-mod soundness;
 mod tables;
-
-// A session's slip: the shape and the class asked for, the settled sum, the number of lines that wait, the steps.
-pub struct Slip {
-    pub shape: u32,
-    pub class: u32,
-    pub settled: i64,
-    pub lines: usize,
-    pub steps: i64,
-}
 
 // A slip with the refusal number beside it.
 pub struct Handed {

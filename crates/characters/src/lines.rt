@@ -1,23 +1,18 @@
-// Waiting lines (document 01, "Slip and page"): a signed shape word and a class word in one word of 64 bits. A line is
-// read, weighed, and struck by a cycle of its class.
+// Waiting lines (document 01, "Slip and page"): a line is weighed, and struck by a cycle of its class.
 ghost use mathlib.Core.Path.{_≡_};
-ghost use Prim.Native.Nat.{_+_, _<_, _≤_, _^_};
+ghost use Prim.Native.Nat.{_+_, _<_, _^_};
 ghost use lib.IntN.{_+ℤ_, natAbs};
 ghost use Rattle.theory.specs.Basics.{map, sum as sumOf};
 ghost use Rattle.theory.specs.Basics.Laws.{Each};
-ghost use Rattle.theory.specs.Digits.{bit};
-ghost use Rattle.theory.specs.Limits.{degreeLimit};
 ghost use Rattle.theory.specs.Bounds.Laws.{largestLimit};
 ghost use Rattle.words.specs.Answers.{Outcome};
-ghost use Rattle.characters.specs.Line.{signedCharacter};
-ghost use Rattle.characters.specs.Page.{lineOf, wordOf};
-ghost use Rattle.characters.specs.Page.Words.{plain};
-ghost use Rattle.characters.specs.Sound.{lineValue};
-ghost use Rattle.characters.specs.Sound.Laws.{SoundLine, values};
-ghost use Rattle.characters.specs.Private.Striking.{soundDegree, classWithout, multiplied, Strikes, stripped};
+ghost use Rattle.pages.specs.Line.{signedCharacter};
+ghost use Rattle.pages.specs.Page.{lineOf};
+ghost use Rattle.pages.specs.Sound.{lineValue};
+ghost use Rattle.pages.specs.Sound.Laws.{SoundLine, values};
+ghost use Rattle.characters.specs.Private.Striking.{classWithout, multiplied, Strikes, stripped};
 use super::evaluation;
 use super::hooks;
-use super::pairs;
 
 // What a cycle leaves of a class: whether the class has it, and the class word without it.
 pub struct WithoutCycle {
@@ -29,48 +24,6 @@ pub struct WithoutCycle {
 pub struct HookLines {
     pub count: usize,
     pub settled: i64,
-}
-
-// Whether the sign is minus.
-pub fn minus(line: u64) -> bool
-    ensures { λ r. ⌜ r ≡ bit 63 line ⌝ }
-{
-    (line >> 63) % 2 == 1
-}
-
-// The shape word, without the sign.
-pub fn shape(line: u64) -> u32
-    ensures { λ r. ⌜ r ≡ lineOf line .shape ⌝ }
-{
-    ((line >> 32) % 0x8000_0000) as u32
-}
-
-pub fn class(line: u64) -> u32
-    ensures { λ r. ⌜ r ≡ lineOf line .class ⌝ }
-{
-    (line % 0x1_0000_0000) as u32
-}
-
-// A line of this sign, shape word and class word.
-pub fn word(minus: bool, shape: u32, class: u32) -> u64
-    requires { ⌜ shape < 2 ^ 31 ⌝ }
-    ensures { λ r. ⌜ r ≡ wordOf (plain minus shape class) ⌝ }
-{
-    let plus = shape as u64 * 0x1_0000_0000 + class as u64;
-    if minus {
-        plus + 0x8000_0000_0000_0000
-    } else {
-        plus
-    }
-}
-
-// The degree of a sound line of degree n at most, and 0 of any other word.
-pub fn degree(line: u64, n: u32) -> u32
-    requires { ⌜ n ≤ degreeLimit ⌝ }
-    ensures { λ r. ⌜ r ≡ soundDegree n (lineOf line) ⌝ }
-{
-    let degree = pairs::common_degree(shape(line), class(line)).degree;
-    if n < degree { 0 } else { degree }
 }
 
 // A class without one cycle: leading zeros give part after part, and what stands behind the cycle moves up.
@@ -106,8 +59,8 @@ pub fn add_line(sum: i64, line: u64) -> i64
 {
     evaluation::add_signed(
         sum,
-        minus(line),
-        evaluation::value(shape(line), class(line)),
+        pages::lines::minus(line),
+        evaluation::value(pages::lines::shape(line), pages::lines::class(line)),
     )
 }
 
@@ -138,8 +91,8 @@ pub fn strip(line: u64, cycle: u32, class: u32, strip: &mut [u64]) -> HookLines
     requires { ⌜ Strikes largestLimit cycle (lineOf line) class (now strip) ⌝ }
     ensures { λ r. ⌜ Outcome (stripped cycle (lineOf line) (now (strip .entry))) r (now (strip .exit)) ⌝ }
 {
-    let shape = shape(line);
-    let minus = minus(line);
+    let shape = pages::lines::shape(line);
+    let minus = pages::lines::minus(line);
     let mut marks = hooks::marks(shape, cycle);
     let mut count = 0;
     let mut settled = 0i64;
@@ -151,7 +104,7 @@ pub fn strip(line: u64, cycle: u32, class: u32, strip: &mut [u64]) -> HookLines
         if leaves == 0 {
             settled = evaluation::add_signed(settled, sign, 1);
         } else {
-            strip[count] = word(sign, leaves, class);
+            strip[count] = pages::lines::word(sign, leaves, class);
             count += 1;
         }
     }

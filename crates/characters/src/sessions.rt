@@ -7,25 +7,23 @@ ghost use lib.Ieee.{binary64, ofInt, div};
 ghost use Rattle.theory.specs.Refusals.{firstOf};
 ghost use Rattle.theory.specs.Limits.{degreeLimit};
 ghost use Rattle.words.specs.Answers.{Outcome};
-ghost use Rattle.characters.specs.Page.{lineOf, slipOf, blank, handed};
-ghost use Rattle.characters.specs.Sound.{pageChecks};
-ghost use Rattle.characters.specs.Sound.Laws.{SoundLine};
-ghost use Rattle.characters.specs.Opening.{opening};
+ghost use Rattle.pages.specs.Page.{lineOf, slipOf, blank};
+ghost use Rattle.pages.specs.Sound.{pageChecks};
+ghost use Rattle.pages.specs.Sound.Laws.{SoundLine};
+ghost use Rattle.characters.specs.Opening.{handed, opening};
 ghost use Rattle.characters.specs.Step.{step as stepOf};
 ghost use Rattle.characters.specs.Watch.{reads, ratio as ratioOf, watchChecks, watch as watchOf};
 ghost use Rattle.characters.specs.Private.ClassLeft.{classLeftOf};
 use super::Handed;
-use super::Slip;
 use super::Watched;
 use super::character_degree;
 use super::evaluation;
 use super::lines;
 use super::page;
-use super::pairs;
-use super::soundness;
-
-// The most words of a page.
-const PAGE_LIMIT: usize = 4096;
+use pages::PAGE_LIMIT;
+use pages::Slip;
+use pages::pairs;
+use pages::soundness;
 
 // What is left of the class of a line that is named: why line and cycle are refused, or the class word without the
 // cycle.
@@ -79,7 +77,7 @@ pub fn open(shape: u32, class: u32, page: &mut [u64]) -> Handed
         return unopened(10);
     }
     page::clear(page);
-    page[0] = lines::word(false, shape, class);
+    page[0] = pages::lines::word(false, shape, class);
     Handed {
         refused: 0,
         slip: Slip {
@@ -93,16 +91,10 @@ pub fn open(shape: u32, class: u32, page: &mut [u64]) -> Handed
 }
 
 // Why a slip and a page are refused, 0 where they are not: 6, then 7.
-fn page_refusal(slip: Slip, page: &[u64]) -> u8
+pub fn page_refusal(slip: Slip, page: &[u64]) -> u8
     ensures { λ r. ⌜ r ≡ firstOf (pageChecks degreeLimit slip (now (page .entry))) ⌝ }
 {
-    if PAGE_LIMIT < page.len() {
-        return 6;
-    }
-    if soundness::sound(slip, page) {
-        return 0;
-    }
-    7
+    soundness::refusal(slip, page)
 }
 
 // The class of a named line without a named cycle. Refuses 6, 7, 8, 9.
@@ -119,7 +111,7 @@ fn class_left(slip: Slip, page: &[u64], line: usize, cycle: u64) -> ClassLeft
             class: 0,
         };
     }
-    let left = lines::strike(lines::class(page[line]), cycle);
+    let left = lines::strike(pages::lines::class(page[line]), cycle);
     if left.found {
         return ClassLeft {
             refused: 0,
@@ -210,7 +202,7 @@ fn ratio(line: u64) -> f64
     requires { ⌜ SoundLine degreeLimit (lineOf line) ⌝ }
     ensures { λ r. ⌜ r ≡ ratioOf (lineOf line) ⌝ }
 {
-    let degree = character_degree(lines::shape(line));
+    let degree = character_degree(pages::lines::shape(line));
     divided(lines::add_line(0, line), degree.number)
 }
 

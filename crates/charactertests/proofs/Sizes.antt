@@ -11,7 +11,7 @@ use mir.Syntax.{w64}
 use mir.Val.{SFits}
 use borrow.Author.Tests.{ltb-false}
 use Rattle.theory.specs.Bounds.Laws.{abs-neg}
-use Rattle.characters.proofs.Signed.{carried, carried-is}
+use Rattle.pages.proofs.Signed.{carried, carried-is}
 
 pub size-between : (z : ℤ) → ltZ z (negsuc 1999999) ≡ false → ltZ (pos 2000000) z ≡ false → natAbs z ≤ 2000000
 size-between (pos n) low high = ltb-false 2000000 n high

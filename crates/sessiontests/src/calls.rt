@@ -1,54 +1,21 @@
 // A random call with its checks. The twin gets it after the run has had it: until then its page has the words that the
 // run's page had before.
+use super::comparing::conserved;
+use super::comparing::same;
+use super::comparing::same_slip;
 use super::drawing::PAGE;
 use super::drawing::Strike;
 use super::drawing::asked;
 use super::drawing::drawn;
 use super::drawing::make;
-use characters::Slip;
-use characters::Watched;
-use characters::sessions;
+use pages::Slip;
 use testing::numbers;
 
-// A call's outcome: the run's slip after it, its place on the board, and what was wrong with it (0: nothing).
+// A call's outcome: the run's slip after it, the refusal number, and what was wrong with it (0: nothing).
 pub struct Found {
     pub slip: Slip,
-    pub place: usize,
+    pub refused: u8,
     pub wrong: usize,
-}
-
-// Whether two pages have the same words.
-fn same(page: &[u64; PAGE], other: &[u64; PAGE]) -> bool {
-    let mut same = true;
-    let mut i = 0;
-    while i < PAGE {
-        same = same & (page[i] == other[i]);
-        i += 1;
-    }
-    same
-}
-
-fn same_slip(slip: Slip, other: Slip) -> bool {
-    (slip.shape == other.shape)
-        & (slip.class == other.class)
-        & (slip.settled == other.settled)
-        & (slip.lines == other.lines)
-        & (slip.steps == other.steps)
-}
-
-// The whole number that a watch shows; where it shows none, one larger than any sum of characters.
-fn shown(slip: Slip, page: &[u64; PAGE], kind: u64) -> i64 {
-    match sessions::watch(slip, page, kind, 0) {
-        Watched::Whole(number) => number,
-        Watched::Ratio(_) => 0x1000_0000_0000_0000,
-        Watched::Refused(_) => 0x1000_0000_0000_0000,
-    }
-}
-
-// Whether the settled sum and the waiting characters are the character of the slip's words.
-fn conserved(slip: Slip, page: &[u64; PAGE]) -> bool {
-    numbers::sum(shown(slip, page, 3), shown(slip, page, 4))
-        == characters::character(slip.shape, slip.class).number
 }
 
 // One more than the lines that wait after an accepted call, counted without the library. An opening has a line, unless
@@ -78,14 +45,19 @@ fn has_room(refused: u8, lines: usize, waits: usize) -> bool {
         | ((refused != 0) & (refused != 10))
 }
 
-// Where an opening or a step is counted that a number refused.
-fn place(opens: bool, refused: u8) -> usize {
-    ((!opens as usize) << 4) | (refused as usize)
+// Whether an opening is drawn: seldom, and mostly where no line waits.
+pub fn opens(run: Slip, word: u64) -> bool {
+    (word % 16 == 0) | ((word % 16 < 12) & (run.lines == 0))
 }
 
-// A drawn call on a session: a step mostly, and where no line waits mostly an opening.
-pub fn call(run: Slip, word: u64, page: &mut [u64; PAGE], twin: &mut [u64; PAGE]) -> Found {
-    let opens = (word % 16 == 0) | ((word % 16 < 12) & (run.lines == 0));
+// A drawn opening or step.
+pub fn call(
+    opens: bool,
+    run: Slip,
+    word: u64,
+    page: &mut [u64; PAGE],
+    twin: &mut [u64; PAGE],
+) -> Found {
     let asked = asked(opens, run, word);
     let strike = drawn(asked, word, page);
     let waits = waiting(opens, asked, strike, page);
@@ -102,7 +74,7 @@ pub fn call(run: Slip, word: u64, page: &mut [u64; PAGE], twin: &mut [u64; PAGE]
     let next = if refused == 0 { slip } else { run };
     Found {
         slip: next,
-        place: place(opens, refused),
+        refused,
         wrong: (!twins as usize)
             | ((!((refused == 0) | unchanged) as usize) << 1)
             | ((!((refused != 0) | counted) as usize) << 2)

@@ -1,7 +1,7 @@
 // What is drawn at random for a call, from one word of a fixed generator.
 use characters::Handed;
-use characters::Slip;
 use characters::sessions;
+use pages::Slip;
 
 // How many words a page has.
 pub const PAGE: usize = 16;
@@ -17,7 +17,7 @@ pub fn next(word: u64) -> u64 {
 }
 
 // A word brought below a bound, and 0 where nothing is below it.
-fn below(word: u64, bound: usize) -> u32 {
+pub fn below(word: u64, bound: usize) -> u32 {
     if bound == 0 {
         0
     } else {

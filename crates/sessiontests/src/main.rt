@@ -1,30 +1,91 @@
-// Runs the sessions of document 01, and a long random run of sessions beside a twin that is never watched. What is
-// compared: the twin's answers and page, the settled sum with the waiting characters, the steps and the lines counted,
-// that 10 comes exactly where the page has no room for the lines, and that a refused call changes nothing. Tests are
-// joined by `&`, which has no branch, so that there is less to prove.
+// Runs the sessions of document 01 and the texts of P1's issue, texts with one byte changed, and a long random run of
+// sessions, with saves and loads in between, beside a twin that is never watched. What is compared: the twin's answers,
+// page and text, the settled sum with the waiting characters, the steps and the lines counted, that 10 comes exactly
+// where the page has no room for the lines and 17 where the bytes have none for the text, that a load gives back what
+// was saved, and that a refused call changes nothing. Tests are joined by `&`, which has no branch, so that there is
+// less to prove.
+mod board;
 mod calls;
+mod changes;
+mod comparing;
 mod drawing;
 mod examples;
+mod loads;
+mod parts;
+mod refused;
 mod runs;
+mod saves;
+mod texts;
 
+use board::REFUSALS;
+use board::WRONG;
 use testing::Tally;
 use testing::print;
 
-// A row of sixteen numbers of the board.
-fn print_row(name: &[u8], board: &[u64; 64], row: usize) {
-    io::write_all(1, name);
-    let mut k = 0;
-    while k < 16 {
-        io::write_all(1, b" ");
-        io::print_decimal(1, board[(row % 4) * 16 + k]);
-        k += 1;
-    }
-    io::write_all(1, b"\n");
+// Texts with one byte changed, dropped or doubled, and cut short: how many were accepted, and how many each number from
+// 1 to 17 refused; and how many of these answers were right, how many wrong.
+fn print_changes() {
+    let mut board = [0u64; board::SIZE];
+    changes::all(
+        b"degree=5\nshape=3,2\nclass=3,2\nsteps=1\nsettled=0\nlines=1\nline=-;1,1;2\n",
+        1,
+        &mut board,
+    );
+    changes::all(
+        b"degree=12\nshape=10,2\nclass=9,3\nsteps=4\nsettled=-12\nlines=2\nline=+;2,2;4\nline=-;10,1;6,5\n",
+        2,
+        &mut board,
+    );
+    board::print(
+        b"texts with a byte changed, 0 for accepted:",
+        &board,
+        changes::CHANGED,
+        REFUSALS,
+    );
+    board::print(
+        b"texts with a byte dropped:",
+        &board,
+        changes::DROPPED,
+        REFUSALS,
+    );
+    board::print(
+        b"texts with a byte doubled:",
+        &board,
+        changes::DOUBLED,
+        REFUSALS,
+    );
+    board::print(b"texts cut short:", &board, changes::CUT, REFUSALS);
+    board::print(b"right and wrong:", &board, WRONG, 2);
 }
 
-// Lines of openings and of steps: how many were accepted, and how many each number from 1 to 15 refused. A line of
-// calls by what was wrong: how many had nothing wrong, then 1 for the twin, 2 for a refused call, 4 for an accepted one,
-// 8 for the sum, added up; a second such line of calls where the number of lines or the room for them was wrong too.
+// Lines of openings, steps, saves and loads: how many were accepted, and how many each number from 1 to 17 refused. A
+// line of calls by what was wrong: how many had nothing wrong, then 1 for the twin, 2 for a refused call, 4 for an
+// accepted one, 8 for the sum, 16 for the number of lines, the room or the line at fault, added up.
+fn print_run() {
+    let board = runs::all();
+    board::print(
+        b"openings, 0 for accepted:",
+        &board,
+        runs::OPENINGS,
+        REFUSALS,
+    );
+    board::print(b"steps:", &board, runs::STEPS, REFUSALS);
+    board::print(b"saves:", &board, runs::SAVES, REFUSALS);
+    board::print(b"loads:", &board, runs::LOADS, REFUSALS);
+    board::print(
+        b"loads on pages of 0 to 24 words:",
+        &board,
+        runs::ELSEWHERE,
+        REFUSALS,
+    );
+    board::print(
+        b"calls by what was wrong, 0 for nothing:",
+        &board,
+        WRONG,
+        32,
+    );
+}
+
 fn main() {
     print(
         b"document 01",
@@ -32,9 +93,15 @@ fn main() {
             .add(examples::no_word())
             .add(examples::one_word()),
     );
-    let board = runs::all();
-    print_row(b"openings, 0 for accepted:", &board, 0);
-    print_row(b"steps, 0 for accepted:", &board, 1);
-    print_row(b"calls by what was wrong, 0 for nothing:", &board, 2);
-    print_row(b"the same where the lines were wrong:", &board, 3);
+    print(
+        b"put away and taken up again",
+        Tally::new()
+            .add(examples::put_away(
+                b"degree=5\nshape=3,2\nclass=3,2\nsteps=1\nsettled=0\nlines=1\nline=-;1,1;2\n",
+            ))
+            .add(examples::too_long()),
+    );
+    print(b"texts refused at their lines", refused::all());
+    print_changes();
+    print_run();
 }

@@ -1,5 +1,4 @@
 -- Laws that several proofs use, and the theorem that no second outcome meets the contract.
 mod Answered
 mod Classes
-mod ListLoops
 pub mod Unique

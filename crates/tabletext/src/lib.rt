@@ -3,11 +3,8 @@ ghost use Rattle.theory.specs.Limits.{degreeLimit};
 ghost use Rattle.words.specs.Answers.{Outcome};
 ghost use Rattle.tabletext.specs.Table.{chartableInto};
 
-mod fields;
-mod lists;
 mod reading;
 mod table;
-mod text;
 
 // How many bytes are enough for every answer.
 pub const ROOM: usize = 1_048_576;
@@ -19,10 +16,10 @@ pub fn answer(input: &[u8], out: &mut [u8; ROOM]) -> usize
 {
     let degree = reading::asked(input);
     if degree == reading::NONE {
-        return fields::number(b"refused=", 13, out, 0);
+        return text::fields::number(b"refused=", 13, out, 0);
     }
     if words::LIMIT < degree {
-        return fields::number(b"refused=", 12, out, 0);
+        return text::fields::number(b"refused=", 12, out, 0);
     }
     table::table(degree, out, 0)
 }

@@ -1,13 +1,13 @@
-// The table of a degree, as text in lent bytes (see `text`).
+// The table of a degree, as text in lent bytes (see `text::writing`).
 ghost use mathlib.Core.Path.{_≡_};
 ghost use mathlib.Core.List.{[]};
-ghost use Prim.Native.Nat.{_+_, _≤_, _<_};
+ghost use Prim.Native.Nat.{_≤_, _<_};
 ghost use Rattle.theory.specs.Basics.{length, getD, joined};
 ghost use Rattle.theory.specs.Listing.{listing};
 ghost use Rattle.theory.specs.Limits.{degreeLimit};
-ghost use Rattle.tabletext.specs.Table.{classLines, table as tableText};
-ghost use Rattle.tabletext.specs.Private.Writing.{Wrote};
-use super::fields;
+ghost use Rattle.text.specs.Wrote.{Wrote};
+ghost use Rattle.tabletext.specs.Table.{classText, classLines, table as tableText};
+use text::fields;
 
 // The number of partitions of a degree.
 fn count(degree: u32) -> u32
@@ -17,11 +17,20 @@ fn count(degree: u32) -> u32
     listing::section(degree).count as u32
 }
 
+// The lines of a class: its parts, its number of elements, its column.
+fn lines(class: &[u8], size: u64, column: &[i64], out: &mut [u8], at: usize) -> usize
+    ensures { λ r. ⌜ Wrote (classText (now (class .entry)) size (now (column .entry)))
+        at (now (out .entry)) r (now (out .exit)) ⌝ }
+{
+    let end = fields::list(b"class=", class, out, at);
+    let end = fields::number(b"size=", size, out, end);
+    fields::values(b"values=", column, out, end)
+}
+
 // The lines of the class of a rank.
 fn class(degree: u32, rank: u32, out: &mut [u8], at: usize) -> usize
     requires { ⌜ degree ≤ degreeLimit ⌝ }
     requires { ⌜ rank < length (listing degree) ⌝ }
-    requires { ⌜ at + length (classLines (getD (listing degree) rank [])) ≤ length (now out) ⌝ }
     ensures { λ r. ⌜ Wrote (classLines (getD (listing degree) rank [])) at (now (out .entry)) r (now (out .exit)) ⌝ }
 {
     let class = listing::class_at(degree, rank);
@@ -32,7 +41,7 @@ fn class(degree: u32, rank: u32, out: &mut [u8], at: usize) -> usize
     let column = characters::column(class.word, &mut values);
     let count = written.count;
     let length = column.count;
-    fields::class(
+    lines(
         &parts[..count],
         size.number as u64,
         &values[..length],
@@ -45,7 +54,6 @@ fn class(degree: u32, rank: u32, out: &mut [u8], at: usize) -> usize
 fn classes(degree: u32, count: u32, out: &mut [u8], at: usize) -> usize
     requires { ⌜ degree ≤ degreeLimit ⌝ }
     requires { ⌜ count ≡ length (listing degree) ⌝ }
-    requires { ⌜ at + length (joined classLines (listing degree)) ≤ length (now out) ⌝ }
     ensures { λ r. ⌜ Wrote (joined classLines (listing degree)) at (now (out .entry)) r (now (out .exit)) ⌝ }
 {
     let mut end = at;
@@ -59,7 +67,6 @@ fn classes(degree: u32, count: u32, out: &mut [u8], at: usize) -> usize
 
 pub fn table(degree: u32, out: &mut [u8], at: usize) -> usize
     requires { ⌜ degree ≤ degreeLimit ⌝ }
-    requires { ⌜ at + length (tableText degree (listing degree)) ≤ length (now out) ⌝ }
     ensures { λ r. ⌜ Wrote (tableText degree (listing degree)) at (now (out .entry)) r (now (out .exit)) ⌝ }
 {
     let count = count(degree);

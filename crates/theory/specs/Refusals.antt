@@ -1,5 +1,6 @@
--- Numbers that refuse (document 01, the table and "Order"). A check is a test and the number that it refuses with.
---   no-1 .. no-15       the rows of the table, each once
+-- Numbers that refuse (document 01, the table and "Order"; document 02, each request's refusals). A check is a test and
+-- the number that it refuses with.
+--   no-1 .. no-15       the rows of the table, each once; no-16 and no-17, those of P1
 --   firstOf checks      the number of the first check whose test applies, 0 if none does
 --   refusedOr k f x     f k, which refuses with the number k, or x where k is 0
 --   shapeChecks         the checks of a single call on a shape word; classChecks, on a class word; pairChecks, on both
@@ -61,6 +62,13 @@ no-14 values column = (length column <? length values, 14)
 
 abbrev pub no-15 : ℕ → Check
 no-15 kind = (not (1 ≤? kind && kind ≤? 5), 15)
+
+-- the first line of a text that is at fault, 0 for none
+abbrev pub no-16 : ℕ → Check
+no-16 line = (not (line =? 0), 16)
+
+abbrev pub no-17 : {A : Type 0} → List A → List A → Check
+no-17 text buffer = (length buffer <? length text, 17)
 
 -- ---- the order
 abbrev pub firstOf : List Check → ℕ

@@ -1,49 +1,70 @@
 -- A session's calls are those of the contracts: whatever meets the contract of an export, as Rattle reads it
 -- (`Reads.Post`), goes in front of a run, or begins a session.
+--   at-hand slip page counted saves   a run stands so, its slip and page those that an export was handed
 use mathlib.Core.Path.{_≡_}
 use denote.Ref.{now}
-use Rattle.theory.specs.Basics.{List, _∷_, ℕ}
+use Rattle.theory.specs.Basics.{List, [], _∷_, ℕ}
+use Rattle.sessiontext.specs.Run.{Saves, countsAt, Standing, standing, after, begun}
 use Rattle.zembrusha.specs.declared.Slip.{Slip}
+use Rattle.zembrusha.specs.Exports.{given}
 use Rattle.zembrusha.specs.Session.{Call, opened, stepped, watched-whole, watched-ratio, watched-refusal}
-use Rattle.zembrusha.specs.Session.{Run, Session}
+use Rattle.zembrusha.specs.Session.{saved, loaded, theirNext, Run, Session}
 use Rattle.zembrusha.proofs.sessions.zembrusha_open.Reads as open-export
 use Rattle.zembrusha.proofs.sessions.zembrusha_step.Reads as step-export
 use Rattle.zembrusha.proofs.sessions.zembrusha_watch_whole.Reads as whole-export
 use Rattle.zembrusha.proofs.sessions.zembrusha_watch_ratio.Reads as ratio-export
 use Rattle.zembrusha.proofs.sessions.zembrusha_watch_refusal.Reads as refusal-export
+use Rattle.zembrusha.proofs.texts.zembrusha_save.Reads as save-export
+use Rattle.zembrusha.proofs.texts.zembrusha_load.Reads as load-export
 
-module _ (calls : List Call) (t : Slip) (q : List ℕ) where
+module _ (calls : List Call) (end : Standing) where
   pub session-opens : (κs : _) (a : _) (r : _) (s : _) → open-export.Post κs a r s → r .refused ≡ 0
-      → Run (r .slip) (now (s .1 .1 .0)) calls t q → Session (a .0) (a .1 .0) (now (a .1 .1 .0)) calls t q
+      → Run (begun (given (r .slip)) (now (s .1 .1 .0))) calls end
+      → Session (a .0) (a .1 .0) (now (a .1 .1 .0)) calls end
   session-opens κs a r s o accepted run =
       record { answer = r; page = now (s .1 .1 .0); promised = o; accepted = accepted; goes-on = run }
 
-  pub run-opens : (κs : _) (a : _) (r : _) (s : _) (u : Slip) → open-export.Post κs a r s → (r .refused ≡ 0 → ⊥)
-      → Run u (now (s .1 .1 .0)) calls t q
-      → Run u (now (a .1 .1 .0)) (opened (a .0) (a .1 .0) r (now (s .1 .1 .0)) ∷ calls) t q
-  unfolding Run
-  run-opens κs a r s u o refused run = (o, refused, run)
+  -- a call in front of a run that goes on from where it leads
+  abbrev InFront : Standing → Call → Type 0
+  InFront at call = Run (after at (theirNext at call)) calls end → Run at (call ∷ calls) end
 
-  pub run-steps : (κs : _) (a : _) (r : _) (s : _) → step-export.Post κs a r s
-      → Run (r .slip) (now (s .1 .0)) calls t q
-      → Run (a .0) (now (a .1 .0)) (stepped (a .1 .1 .0) (a .1 .1 .1 .0) r (now (s .1 .0)) ∷ calls) t q
-  unfolding Run
-  run-steps κs a r s o run = (o, run)
+  module _ (counted : ℕ) (saves : Saves) where
+    abbrev at-hand : Slip → List ℕ → Standing
+    at-hand slip page = standing (given slip) page counted saves
 
-  pub run-watches-whole : (κs : _) (a : _) (r : _) (s : _) → whole-export.Post κs a r s
-      → Run (a .0) (now (a .1 .0)) calls t q
-      → Run (a .0) (now (a .1 .0)) (watched-whole (a .1 .1 .0) (a .1 .1 .1 .0) r ∷ calls) t q
-  unfolding Run
-  run-watches-whole κs a r s o run = (o, run)
+    pub run-opens : (κs : _) (a : _) (r : _) (s : _) (u : Slip) → open-export.Post κs a r s → (r .refused ≡ 0 → ⊥)
+        → InFront (at-hand u (now (a .1 .1 .0))) (opened (a .0) (a .1 .0) r (now (s .1 .1 .0)))
+    unfolding Run
+    run-opens κs a r s u o refused run = (o, refused, run)
 
-  pub run-watches-ratio : (κs : _) (a : _) (r : _) (s : _) → ratio-export.Post κs a r s
-      → Run (a .0) (now (a .1 .0)) calls t q
-      → Run (a .0) (now (a .1 .0)) (watched-ratio (a .1 .1 .0) (a .1 .1 .1 .0) r ∷ calls) t q
-  unfolding Run
-  run-watches-ratio κs a r s o run = (o, run)
+    pub run-steps : (κs : _) (a : _) (r : _) (s : _) → step-export.Post κs a r s
+        → InFront (at-hand (a .0) (now (a .1 .0))) (stepped (a .1 .1 .0) (a .1 .1 .1 .0) r (now (s .1 .0)))
+    unfolding Run
+    run-steps κs a r s o run = (o, tt, run)
 
-  pub run-watches-refusal : (κs : _) (a : _) (r : _) (s : _) → refusal-export.Post κs a r s
-      → Run (a .0) (now (a .1 .0)) calls t q
-      → Run (a .0) (now (a .1 .0)) (watched-refusal (a .1 .1 .0) (a .1 .1 .1 .0) r ∷ calls) t q
-  unfolding Run
-  run-watches-refusal κs a r s o run = (o, run)
+    pub run-watches-whole : (κs : _) (a : _) (r : _) (s : _) → whole-export.Post κs a r s
+        → InFront (at-hand (a .0) (now (a .1 .0))) (watched-whole (a .1 .1 .0) (a .1 .1 .1 .0) r)
+    unfolding Run
+    run-watches-whole κs a r s o run = (o, tt, run)
+
+    pub run-watches-ratio : (κs : _) (a : _) (r : _) (s : _) → ratio-export.Post κs a r s
+        → InFront (at-hand (a .0) (now (a .1 .0))) (watched-ratio (a .1 .1 .0) (a .1 .1 .1 .0) r)
+    unfolding Run
+    run-watches-ratio κs a r s o run = (o, tt, run)
+
+    pub run-watches-refusal : (κs : _) (a : _) (r : _) (s : _) → refusal-export.Post κs a r s
+        → InFront (at-hand (a .0) (now (a .1 .0))) (watched-refusal (a .1 .1 .0) (a .1 .1 .1 .0) r)
+    unfolding Run
+    run-watches-refusal κs a r s o run = (o, tt, run)
+
+    pub run-saves : (κs : _) (a : _) (r : _) (s : _) → save-export.Post κs a r s
+        → InFront (at-hand (a .0) (now (a .1 .0))) (saved (now (a .1 .1 .0)) r (now (s .1 .1 .0)))
+    unfolding Run
+    run-saves κs a r s o run = (o, tt, run)
+
+    -- a load that is refused, or of a text that was saved in the run
+    pub run-loads : (κs : _) (a : _) (r : _) (s : _) (u : Slip) → load-export.Post κs a r s
+        → (r .refused ≡ 0 → countsAt (now (a .0)) saves ≡ [] → ⊥)
+        → InFront (at-hand u (now (a .1 .0))) (loaded (now (a .0)) r (now (s .1 .0)))
+    unfolding Run
+    run-loads κs a r s u o known run = (o, known, run)

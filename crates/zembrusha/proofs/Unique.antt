@@ -7,7 +7,8 @@ use Rattle.words.specs.Calls.{shapePartsInto, classPartsInto}
 use Rattle.characters.specs.Calls.{columnInto}
 use Rattle.characters.specs.Opening.{opening}
 use Rattle.characters.specs.Step.{step as stepOf}
-use Rattle.zembrusha.specs.Exports.{counted, given, handedRun}
+use Rattle.sessiontext.specs.Calls.{saveInto, loadInto}
+use Rattle.zembrusha.specs.Exports.{counted, given, handedRun, loadedRun}
 use Rattle.zembrusha.proofs.singles.zembrusha_character.Reads as character
 use Rattle.zembrusha.proofs.singles.zembrusha_character_refusal.Reads as character-refusal
 use Rattle.zembrusha.proofs.singles.zembrusha_degree.Reads as degree
@@ -32,6 +33,8 @@ use Rattle.zembrusha.proofs.sessions.zembrusha_step.Reads as stepped
 use Rattle.zembrusha.proofs.sessions.zembrusha_watch_whole.Reads as watch-whole
 use Rattle.zembrusha.proofs.sessions.zembrusha_watch_ratio.Reads as watch-ratio
 use Rattle.zembrusha.proofs.sessions.zembrusha_watch_refusal.Reads as watch-refusal
+use Rattle.zembrusha.proofs.texts.zembrusha_save.Reads as saved
+use Rattle.zembrusha.proofs.texts.zembrusha_load.Reads as loaded
 
 -- ---- single calls
 pub zembrusha-character-once : (κs : _) (a : _) (r r′ : _) (s s′ : _) → character.Post κs a r s
@@ -136,3 +139,14 @@ zembrusha-watch-ratio-once κs a r r′ s s′ p q = p ∙ sym q
 pub zembrusha-watch-refusal-once : (κs : _) (a : _) (r r′ : _) (s s′ : _) → watch-refusal.Post κs a r s
     → watch-refusal.Post κs a r′ s′ → r ≡ r′
 zembrusha-watch-refusal-once κs a r r′ s s′ p q = p ∙ sym q
+
+-- ---- texts
+pub zembrusha-save-once : (κs : _) (a : _) (r r′ : _) (s s′ : _) → saved.Post κs a r s → saved.Post κs a r′ s′
+    → (r ≡ r′) × (now (s .1 .1 .0) ≡ now (s′ .1 .1 .0))
+zembrusha-save-once κs a r r′ s s′ p q =
+    one-outcome (counted (saveInto degreeLimit (given (a .0)) (now (a .1 .0)) (now (a .1 .1 .0)))) p q
+
+pub zembrusha-load-once : (κs : _) (a : _) (r r′ : _) (s s′ : _) → loaded.Post κs a r s → loaded.Post κs a r′ s′
+    → (r ≡ r′) × (now (s .1 .0) ≡ now (s′ .1 .0))
+zembrusha-load-once κs a r r′ s s′ p q =
+    one-outcome (loadedRun (loadInto degreeLimit (now (a .0)) (now (a .1 .0)))) p q

@@ -1,19 +1,22 @@
 -- The answers of the calls as the exports hand them over.
 --   ofWord answer, ofCount answer   the word or the count as a number, the refusal number beside it
---   given slip                      the slip that the calculator is handed; handedOver k slip, what it hands back
---   handedRun outcome               a handed slip and a page: the slip handed over, the page as it is
+--   given slip                      the slip that the calculator is handed; slipOver slip, one that it hands back
+--   handedOver k slip               with the refusal number k; loadedOver k line slip, of a load, with the text's line
+--   handedRun outcome               a handed slip and a page: the slip handed over, the page as it is; loadedRun so too
 --   number value                    the whole number that a watch gives, 0 where it gives none; fraction, the ratio
 --   counted outcome                 an answer and a lent run: the answer handed over, the run as it is
 use lib.Ieee.{Float, binary64, ofBits}
 use Rattle.theory.specs.Basics.{List, ℕ, ℤ, pos}
 use Rattle.words.specs.declared.CountAnswer.{CountAnswer}
 use Rattle.words.specs.declared.WordAnswer.{WordAnswer}
-use Rattle.characters.specs.declared.Slip as calculator
+use Rattle.pages.specs.declared.Slip as calculator
 use Rattle.characters.specs.declared.Handed as calculator-handed
+use Rattle.sessiontext.specs.declared.Loaded as calculator-loaded
 use Rattle.characters.specs.Watch.{Value, whole, quotient, none}
 use Rattle.zembrusha.specs.declared.Number.{Number}
 use Rattle.zembrusha.specs.declared.Slip.{Slip}
 use Rattle.zembrusha.specs.declared.Handed.{Handed}
+use Rattle.zembrusha.specs.declared.Loaded.{Loaded}
 
 abbrev pub ofWord : WordAnswer → Number
 ofWord a = record { refused = a .refused; number = a .word }
@@ -27,14 +30,21 @@ counted x = (ofCount (x .0), x .1)
 abbrev pub given : Slip → calculator.Slip
 given s = record { shape = s .shape; class = s .«class_word»; settled = s .settled; lines = s .lines; steps = s .steps }
 
+abbrev pub slipOver : calculator.Slip → Slip
+slipOver s =
+    record { shape = s .shape; «class_word» = s .class; settled = s .settled; lines = s .lines; steps = s .steps }
+
 abbrev pub handedOver : ℕ → calculator.Slip → Handed
-handedOver k s = record {
-  refused = k;
-  slip = record { shape = s .shape; «class_word» = s .class; settled = s .settled; lines = s .lines; steps = s .steps };
-}
+handedOver k s = record { refused = k; slip = slipOver s }
+
+abbrev pub loadedOver : ℕ → ℕ → calculator.Slip → Loaded
+loadedOver k line s = record { refused = k; line = line; slip = slipOver s }
 
 abbrev pub handedRun : calculator-handed.Handed × List ℕ → Handed × List ℕ
 handedRun x = (handedOver (x .0 .refused) (x .0 .slip), x .1)
+
+abbrev pub loadedRun : calculator-loaded.Loaded × List ℕ → Loaded × List ℕ
+loadedRun x = (loadedOver (x .0 .refused) (x .0 .line) (x .0 .slip), x .1)
 
 abbrev pub number : Value → ℤ
 number (whole z) = z

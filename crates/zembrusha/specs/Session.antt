@@ -1,73 +1,97 @@
--- Sessions as C makes them (demand 3, through the exports): after an accepted opening any exported steps, watches and
--- refused openings, each meeting its contract, the latest slip and page handed on.
---   Call                a call of an export: its arguments, its answer, and the page as it returned
---   Run s p calls t q   from slip s and page p the calls lead to slip t and page q
---   Session ..          an accepted `zembrusha_open` of a shape on a class, on the page p, and a run from there to t, q
---   taken answer        the calculator's answer that was handed over as this one
---   Alike call theirs   the calculator's call `theirs` asks and answers what the exported call does; of a watch's
---                       answer an export gives one part: the whole number, the ratio or the refusal number
---   Same calls theirs   the same, call by call
+-- Sessions as C makes them (demand 3, through the exports): after an accepted opening any exported steps, watches,
+-- saves, loads and refused openings, each meeting its contract, the latest slip and page handed on.
+--   Call                 a call of an export: its arguments, its answer, and the lent run as it returned
+--   taken answer         the calculator's answer that was handed over as this one; takenCount and takenLoad so too
+--   Promised s p call    the call, made with the slip that is given as s on page p, meets its contract
+--   theirs s p call      the calculator's call that asks and answers the same; of a watch's answer an export gives one
+--                        part: the whole number, the ratio or the refusal number; theirNext now call, made at `now`
+--   Run now calls end    from `now` the calls lead to `end`; a run stands where the calculator's does
+--   Session ..           an accepted `zembrusha_open` of a shape on a class, on the page p, and a run from there
+--   first s              where the session s stands when it was opened
+--   allTheirs now calls  the calculator's calls that ask and answer the same, one after the other
 use mathlib.Core.Path.{_≡_}
 use lib.Ieee.{Float}
 use Rattle.theory.specs.Basics.{List, [], _∷_, ℕ, ℤ}
 use Rattle.theory.specs.Limits.{degreeLimit}
+use Rattle.words.specs.declared.CountAnswer.{CountAnswer}
 use Rattle.words.specs.Answers.{Outcome}
+use Rattle.text.specs.Text.{Text}
+use Rattle.pages.specs.declared.Slip as calculator-slip
 use Rattle.characters.specs.declared.Handed as calculator-handed
-use Rattle.characters.specs.declared.Watched.{Watched}
 use Rattle.characters.specs.Opening.{opening}
 use Rattle.characters.specs.Step.{step}
-use Rattle.characters.specs.Watch.{reads, watch}
-use Rattle.characters.specs.Run as calculator
-use Rattle.zembrusha.specs.declared.Slip.{Slip}
+use Rattle.characters.specs.Watch.{watch}
+use Rattle.characters.specs.Watch.Answers.{said}
+use Rattle.sessiontext.specs.declared.Loaded as calculator-loaded
+use Rattle.sessiontext.specs.Calls.{saveInto, loadInto}
+use Rattle.sessiontext.specs.Run as calculator
+use Rattle.sessiontext.specs.Run.{Standing, Belongs, after, begun}
+use Rattle.zembrusha.specs.declared.Number.{Number}
 use Rattle.zembrusha.specs.declared.Handed.{Handed}
-use Rattle.zembrusha.specs.Exports.{given, handedRun, number, fraction}
+use Rattle.zembrusha.specs.declared.Loaded.{Loaded}
+use Rattle.zembrusha.specs.Exports.{counted, given, handedRun, loadedRun, number, fraction}
 pub mod Laws
 
 pub data Call : Type 0 where
-  opened : (shape class : ℕ) → Handed → List ℕ → Call
-  stepped : (line cycle : ℕ) → Handed → List ℕ → Call
+  opened : (shape class : ℕ) → Handed → (page : List ℕ) → Call
+  stepped : (line cycle : ℕ) → Handed → (page : List ℕ) → Call
   watched-whole : (kind line : ℕ) → ℤ → Call
   watched-ratio : (kind line : ℕ) → Float → Call
   watched-refusal : (kind line : ℕ) → ℕ → Call
+  saved : (out : Text) → Number → (left : Text) → Call
+  loaded : (text : Text) → Loaded → (page : List ℕ) → Call
 
--- a refused opening's blank slip is laid aside
-unfoldable pub Run : Slip → List ℕ → List Call → Slip → List ℕ → Type 0
-Run s p [] t q = (t ≡ s) × (q ≡ p)
-Run s p (opened shape class a p′ ∷ calls) t q =
-    Outcome (handedRun (opening degreeLimit shape class p)) a p′ × (a .refused ≡ 0 → ⊥) × Run s p′ calls t q
-Run s p (stepped line cycle a p′ ∷ calls) t q =
-    Outcome (handedRun (step degreeLimit (given s) p line cycle)) a p′ × Run (a .slip) p′ calls t q
-Run s p (watched-whole kind line z ∷ calls) t q =
-    (z ≡ number (watch degreeLimit (given s) p kind line .1)) × Run s p calls t q
-Run s p (watched-ratio kind line x ∷ calls) t q =
-    (x ≡ fraction (watch degreeLimit (given s) p kind line .1)) × Run s p calls t q
-Run s p (watched-refusal kind line k ∷ calls) t q =
-    (k ≡ watch degreeLimit (given s) p kind line .0) × Run s p calls t q
+-- ---- answers
+abbrev pub taken : Handed → calculator-handed.Handed
+taken a = record { refused = a .refused; slip = given (a .slip) }
 
-pub record Session (shape class : ℕ) (p : List ℕ) (calls : List Call) (t : Slip) (q : List ℕ) : Type 0 where
+abbrev pub takenCount : Number → CountAnswer
+takenCount a = record { refused = a .refused; count = a .number }
+
+abbrev pub takenLoad : Loaded → calculator-loaded.Loaded
+takenLoad a = record { refused = a .refused; line = a .line; slip = given (a .slip) }
+
+-- ---- a call
+module _ (s : calculator-slip.Slip) (p : List ℕ) where
+  abbrev pub Promised : Call → Type 0
+  Promised (opened shape class a q) = Outcome (handedRun (opening degreeLimit shape class p)) a q
+  Promised (stepped line cycle a q) = Outcome (handedRun (step degreeLimit s p line cycle)) a q
+  Promised (watched-whole kind line z) = z ≡ number (watch degreeLimit s p kind line .1)
+  Promised (watched-ratio kind line x) = x ≡ fraction (watch degreeLimit s p kind line .1)
+  Promised (watched-refusal kind line k) = k ≡ watch degreeLimit s p kind line .0
+  Promised (saved out a left) = Outcome (counted (saveInto degreeLimit s p out)) a left
+  Promised (loaded text a q) = Outcome (loadedRun (loadInto degreeLimit text p)) a q
+
+  abbrev pub theirs : Call → calculator.Call
+  theirs (opened shape class a q) = calculator.opened shape class (taken a) q
+  theirs (stepped line cycle a q) = calculator.stepped line cycle (taken a) q
+  theirs (watched-whole kind line z) = calculator.watched kind line (said (watch degreeLimit s p kind line))
+  theirs (watched-ratio kind line x) = calculator.watched kind line (said (watch degreeLimit s p kind line))
+  theirs (watched-refusal kind line k) = calculator.watched kind line (said (watch degreeLimit s p kind line))
+  theirs (saved out a left) = calculator.saved out (takenCount a) left
+  theirs (loaded text a q) = calculator.loaded text (takenLoad a) q
+
+-- ---- calls one after the other
+abbrev pub theirNext : Standing → Call → calculator.Call
+theirNext now call = theirs (now .slip) (now .page) call
+
+unfoldable pub Run : Standing → List Call → Standing → Type 0
+Run now [] end = end ≡ now
+Run now (call ∷ calls) end =
+    Promised (now .slip) (now .page) call × Belongs (now .saves) (theirNext now call)
+    × Run (after now (theirNext now call)) calls end
+
+pub record Session (shape class : ℕ) (p : List ℕ) (calls : List Call) (end : Standing) : Type 0 where
   pub answer : Handed
   pub page : List ℕ
   pub promised : Outcome (handedRun (opening degreeLimit shape class p)) answer page
   pub accepted : answer .refused ≡ 0
-  pub goes-on : Run (answer .slip) page calls t q
+  pub goes-on : Run (begun (given (answer .slip)) page) calls end
 
--- ---- the same calls of the calculator
-abbrev pub taken : Handed → calculator-handed.Handed
-taken a = record { refused = a .refused; slip = given (a .slip) }
+abbrev pub first : {shape class : ℕ} {p : List ℕ} {calls : List Call} {end : Standing}
+    → Session shape class p calls end → Standing
+first s = begun (given (s .answer .slip)) (s .page)
 
-pub data Alike : Call → calculator.Call → Type 0 where
-  both-open : (shape class : ℕ) (a : Handed) (p : List ℕ)
-      → Alike (opened shape class a p) (calculator.opened shape class (taken a) p)
-  both-step : (line cycle : ℕ) (a : Handed) (p : List ℕ)
-      → Alike (stepped line cycle a p) (calculator.stepped line cycle (taken a) p)
-  its-whole : (kind line : ℕ) (a : Watched)
-      → Alike (watched-whole kind line (number (reads a .1))) (calculator.watched kind line a)
-  its-ratio : (kind line : ℕ) (a : Watched)
-      → Alike (watched-ratio kind line (fraction (reads a .1))) (calculator.watched kind line a)
-  its-refusal : (kind line : ℕ) (a : Watched)
-      → Alike (watched-refusal kind line (reads a .0)) (calculator.watched kind line a)
-
-pub data Same : List Call → List calculator.Call → Type 0 where
-  no-calls : Same [] []
-  also : {call : Call} {theirs : calculator.Call} {calls : List Call} {others : List calculator.Call}
-      → Alike call theirs → Same calls others → Same (call ∷ calls) (theirs ∷ others)
+unfoldable pub allTheirs : Standing → List Call → List calculator.Call
+allTheirs now [] = []
+allTheirs now (call ∷ calls) = theirNext now call ∷ allTheirs (after now (theirNext now call)) calls

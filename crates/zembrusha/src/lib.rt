@@ -1,9 +1,11 @@
 // The calculator's calls for C and Rust: plain numbers in, plain numbers or a struct by value out. window/zembrusha.h
 // declares them; tests/window holds the two against each other.
 
+mod handing;
 pub mod runs;
 pub mod sessions;
 pub mod singles;
+pub mod texts;
 
 // A word or a count, 0 when refused, with the refusal number beside it.
 #[repr(C)]
@@ -26,5 +28,13 @@ pub struct Slip {
 #[repr(C)]
 pub struct Handed {
     pub refused: u32,
+    pub slip: Slip,
+}
+
+// A slip with the refusal number beside it and, where that is 16, the text's line that is at fault, from 1.
+#[repr(C)]
+pub struct Loaded {
+    pub refused: u32,
+    pub line: u64,
     pub slip: Slip,
 }

@@ -4,33 +4,16 @@ ghost use Rattle.theory.specs.Limits.{degreeLimit};
 ghost use Rattle.words.specs.Answers.{Outcome};
 ghost use Rattle.words.specs.Calls.{shapeWordFrom, classWordFrom, shapePartsInto, classPartsInto};
 ghost use Rattle.characters.specs.Calls.{columnInto};
-ghost use Rattle.zembrusha.specs.Exports.{ofWord, ofCount, counted};
+ghost use Rattle.zembrusha.specs.Exports.{ofWord, counted};
 use super::Number;
-
-fn of_word(answer: words::WordAnswer) -> Number
-    ensures { λ r. ⌜ r ≡ ofWord answer ⌝ }
-{
-    Number {
-        refused: answer.refused as u32,
-        number: answer.word as u64,
-    }
-}
-
-fn of_count(answer: words::CountAnswer) -> Number
-    ensures { λ r. ⌜ r ≡ ofCount answer ⌝ }
-{
-    Number {
-        refused: answer.refused as u32,
-        number: answer.count as u64,
-    }
-}
+use super::handing;
 
 // The shape word of a part list.
 #[no_mangle]
 pub extern "C" fn zembrusha_shape_word(parts: &[u8]) -> Number
     ensures { λ r. ⌜ r ≡ ofWord (shapeWordFrom degreeLimit (now (parts .entry))) ⌝ }
 {
-    of_word(words::shapes::word(parts))
+    handing::of_word(words::shapes::word(parts))
 }
 
 // The class word of a part list.
@@ -38,7 +21,7 @@ pub extern "C" fn zembrusha_shape_word(parts: &[u8]) -> Number
 pub extern "C" fn zembrusha_class_word(parts: &[u8]) -> Number
     ensures { λ r. ⌜ r ≡ ofWord (classWordFrom degreeLimit (now (parts .entry))) ⌝ }
 {
-    of_word(words::classes::word(parts))
+    handing::of_word(words::classes::word(parts))
 }
 
 // The rows of a shape word to the front of a column; their count.
@@ -47,7 +30,7 @@ pub extern "C" fn zembrusha_shape_parts(shape: u32, column: &mut [u8]) -> Number
     ensures { λ r. ⌜ Outcome (counted (shapePartsInto degreeLimit shape (now (column .entry))))
         r (now (column .exit)) ⌝ }
 {
-    of_count(words::shapes::parts(shape, column))
+    handing::of_count(words::shapes::parts(shape, column))
 }
 
 // The parts of a class word to the front of a column; their count.
@@ -56,7 +39,7 @@ pub extern "C" fn zembrusha_class_parts(class: u32, column: &mut [u8]) -> Number
     ensures { λ r. ⌜ Outcome (counted (classPartsInto degreeLimit class (now (column .entry))))
         r (now (column .exit)) ⌝ }
 {
-    of_count(words::classes::parts(class, column))
+    handing::of_count(words::classes::parts(class, column))
 }
 
 // The values of a class for all shapes, in listing order, to the front of a column; their count.
@@ -64,5 +47,5 @@ pub extern "C" fn zembrusha_class_parts(class: u32, column: &mut [u8]) -> Number
 pub extern "C" fn zembrusha_column(class: u32, values: &mut [i64]) -> Number
     ensures { λ r. ⌜ Outcome (counted (columnInto degreeLimit class (now (values .entry)))) r (now (values .exit)) ⌝ }
 {
-    of_count(characters::column(class, values))
+    handing::of_count(characters::column(class, values))
 }

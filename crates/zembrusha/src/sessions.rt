@@ -5,37 +5,11 @@ ghost use Rattle.words.specs.Answers.{Outcome};
 ghost use Rattle.characters.specs.Opening.{opening};
 ghost use Rattle.characters.specs.Step.{step};
 ghost use Rattle.characters.specs.Watch.{reads, watch};
-ghost use Rattle.zembrusha.specs.Exports.{given, handedOver, handedRun, number, fraction};
+ghost use Rattle.zembrusha.specs.Exports.{given, handedRun, number, fraction};
 use super::Handed;
 use super::Slip;
+use super::handing;
 use characters::Watched;
-
-fn slip_in(slip: Slip) -> characters::Slip
-    ensures { λ r. ⌜ r ≡ given slip ⌝ }
-{
-    characters::Slip {
-        shape: slip.shape,
-        class: slip.class_word,
-        settled: slip.settled,
-        lines: slip.lines as usize,
-        steps: slip.steps,
-    }
-}
-
-fn slip_out(refused: u8, slip: characters::Slip) -> Handed
-    ensures { λ r. ⌜ r ≡ handedOver refused slip ⌝ }
-{
-    Handed {
-        refused: refused as u32,
-        slip: Slip {
-            shape: slip.shape,
-            class_word: slip.class,
-            settled: slip.settled,
-            lines: slip.lines as u64,
-            steps: slip.steps,
-        },
-    }
-}
 
 // Opens a session of a shape on a class.
 #[no_mangle]
@@ -44,7 +18,7 @@ pub extern "C" fn zembrusha_open(shape: u32, class: u32, page: &mut [u64]) -> Ha
 {
     let opened = characters::sessions::open(shape, class, page);
     let slip = opened.slip;
-    slip_out(opened.refused, slip)
+    handing::slip_out(opened.refused, slip)
 }
 
 // Strikes a cycle from a line.
@@ -53,9 +27,9 @@ pub extern "C" fn zembrusha_step(slip: Slip, page: &mut [u64], line: u64, cycle:
     ensures { λ r. ⌜ Outcome (handedRun (step degreeLimit (given slip) (now (page .entry)) line cycle))
         r (now (page .exit)) ⌝ }
 {
-    let stepped = characters::sessions::step(slip_in(slip), page, line as usize, cycle);
+    let stepped = characters::sessions::step(handing::slip_in(slip), page, line as usize, cycle);
     let next = stepped.slip;
-    slip_out(stepped.refused, next)
+    handing::slip_out(stepped.refused, next)
 }
 
 // The whole number of what was watched, 0 where there is none.
@@ -96,7 +70,7 @@ fn refusal(watched: Watched) -> u32
 pub extern "C" fn zembrusha_watch_whole(slip: Slip, page: &[u64], kind: u64, line: u64) -> i64
     ensures { λ r. ⌜ r ≡ number (watch degreeLimit (given slip) (now (page .entry)) kind line .1) ⌝ }
 {
-    whole(characters::sessions::watch(slip_in(slip), page, kind, line as usize))
+    whole(characters::sessions::watch(handing::slip_in(slip), page, kind, line as usize))
 }
 
 // The ratio that a watch gives, 0 where it gives none.
@@ -104,7 +78,7 @@ pub extern "C" fn zembrusha_watch_whole(slip: Slip, page: &[u64], kind: u64, lin
 pub extern "C" fn zembrusha_watch_ratio(slip: Slip, page: &[u64], kind: u64, line: u64) -> f64
     ensures { λ r. ⌜ r ≡ fraction (watch degreeLimit (given slip) (now (page .entry)) kind line .1) ⌝ }
 {
-    ratio(characters::sessions::watch(slip_in(slip), page, kind, line as usize))
+    ratio(characters::sessions::watch(handing::slip_in(slip), page, kind, line as usize))
 }
 
 // The refusal number of the same watch, 0 for none.
@@ -112,5 +86,5 @@ pub extern "C" fn zembrusha_watch_ratio(slip: Slip, page: &[u64], kind: u64, lin
 pub extern "C" fn zembrusha_watch_refusal(slip: Slip, page: &[u64], kind: u64, line: u64) -> u32
     ensures { λ r. ⌜ r ≡ watch degreeLimit (given slip) (now (page .entry)) kind line .0 ⌝ }
 {
-    refusal(characters::sessions::watch(slip_in(slip), page, kind, line as usize))
+    refusal(characters::sessions::watch(handing::slip_in(slip), page, kind, line as usize))
 }

@@ -28,6 +28,14 @@ struct Handed {
     slip: CSlip,
 }
 
+#[repr(C)]
+#[derive(Clone, Copy)]
+struct Loaded {
+    refused: u32,
+    line: u64,
+    slip: CSlip,
+}
+
 extern "C" {
     fn zembrusha_character(shape: u32, class: u32) -> i64;
     fn zembrusha_character_refusal(shape: u32, class: u32) -> u32;
@@ -53,6 +61,8 @@ extern "C" {
     fn zembrusha_watch_whole(slip: CSlip, page: *const u64, words: usize, kind: u64, line: u64) -> i64;
     fn zembrusha_watch_ratio(slip: CSlip, page: *const u64, words: usize, kind: u64, line: u64) -> f64;
     fn zembrusha_watch_refusal(slip: CSlip, page: *const u64, words: usize, kind: u64, line: u64) -> u32;
+    fn zembrusha_save(slip: CSlip, page: *const u64, words: usize, text: *mut u8, length: usize) -> Number;
+    fn zembrusha_load(text: *const u8, length: usize, page: *mut u64, words: usize) -> Loaded;
 }
 
 /// A value, and the refusal number for the same words.
@@ -124,9 +134,15 @@ impl From<Slip> for CSlip {
     }
 }
 
+impl From<CSlip> for Slip {
+    fn from(slip: CSlip) -> Slip {
+        let CSlip { shape, class_word, settled, lines, steps } = slip;
+        Slip { shape, class: class_word, settled, lines, steps }
+    }
+}
+
 fn handed(answer: Handed) -> (u32, Slip) {
-    let CSlip { shape, class_word, settled, lines, steps } = answer.slip;
-    (answer.refused, Slip { shape, class: class_word, settled, lines, steps })
+    (answer.refused, answer.slip.into())
 }
 
 pub fn open(shape: u32, class: u32, page: &[u64]) -> Left<(u32, Slip), u64> {
@@ -147,4 +163,18 @@ pub fn watch_ratio(slip: Slip, page: &[u64], kind: u64, line: u64) -> Left<f64, 
 
 pub fn watch_refusal(slip: Slip, page: &[u64], kind: u64, line: u64) -> Left<u32, u64> {
     lend(page, |pointer, words| unsafe { zembrusha_watch_refusal(slip.into(), pointer, words, kind, line) })
+}
+
+/// What a save answers and leaves on the page, and what it leaves in the text.
+pub fn save(slip: Slip, page: &[u64], text: &[u8]) -> Left<Left<Valued<u64>, u64>, u8> {
+    lend(text, |to, length| {
+        lend(page, |from, words| valued(unsafe { zembrusha_save(slip.into(), from, words, to, length) }))
+    })
+}
+
+/// What a load answers, the refusal number, the line and the slip, and leaves of the text, and what it leaves on the
+/// page.
+pub fn load(text: &[u8], page: &[u64]) -> Left<Left<(u32, u64, Slip), u8>, u64> {
+    let answered = |answer: Loaded| (answer.refused, answer.line, answer.slip.into());
+    lend(page, |to, words| lend(text, |from, length| answered(unsafe { zembrusha_load(from, length, to, words) })))
 }

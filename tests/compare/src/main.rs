@@ -15,7 +15,7 @@ use std::process::ExitCode;
 /// The comparisons of a group.
 type Run = fn(&Characters, &mut Group);
 
-const GROUPS: [(&str, Run); 9] = [
+const GROUPS: [(&str, Run); 12] = [
     ("examples", groups::examples::run),
     ("every shape on every class", groups::pairs::run),
     ("sessions to their ends", groups::ends::run),
@@ -25,6 +25,9 @@ const GROUPS: [(&str, Run); 9] = [
     ("words", groups::words::run),
     ("pairs of words", groups::words::run_pairs),
     ("sessions", groups::sessions::run),
+    ("texts that were changed", groups::texts::run),
+    ("texts by hand", groups::handmade::run),
+    ("texts and pages of all sizes", groups::sizes::run),
 ];
 
 /// Compares the chosen groups side by side, and gives whether nothing differed in any.

@@ -4,8 +4,9 @@ use borrow.Author.Needs.{needs}
 use Rattle.theory.specs.Refusals.{pairChecks}
 use Rattle.theory.specs.Limits.{degreeLimit}
 use Rattle.words.proofs.Answers.{number-refused, number-given}
+use Rattle.pages.proofs.WordPairs.{Pair, pair-refused, pair-passed}
 use Rattle.characters.specs.Calls.{characterOf}
-use Rattle.characters.proofs.WordPairs.{Pair, pair-refused, pair-passed}
+use Rattle.characters.proofs.Evaluables.{pair-evaluable}
 use Rattle.characters.proofs.Walks.{widened, character-carried}
 use Rattle.characters.proofs.character.Statement.{statement}
 use Rattle.characters.proofs.character.Tie as tie
@@ -28,7 +29,7 @@ pair c =
     pair-passed _ _ _ _ (a .common-degree .ensures) (c .if1 .left)
 
 value-requires : tie.Need-value-requires
-value-requires c κs = (pair c .below, widened (pair c .evaluable) (omega arith))
+value-requires c κs = (pair c .words .class .good .below, widened (pair-evaluable (pair c .words)) (omega arith))
 
 returns-2 : tie.Need-returns-2
 unfolding characterOf
@@ -36,7 +37,7 @@ returns-2 c =
     let start = c .before .before .before .before in
     let p = pair (c .before) in
     number-given (pairChecks degreeLimit (start .args .shape) (start .args .class)) _ _ (p .none)
-    (rw (c .value .ensures) (character-carried (widened (p .evaluable) (omega arith))))
+    (rw (c .value .ensures) (character-carried (widened (pair-evaluable (p .words)) (omega arith))))
 
 pub character-spec : {M : Type 1} → statement M
 character-spec = tie.close (tie.spec common-degree-requires returns value-requires returns-2)

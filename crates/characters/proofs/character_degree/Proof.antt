@@ -9,8 +9,9 @@ use Rattle.theory.specs.Refusals.{shapeChecks}
 use Rattle.theory.specs.Limits.{degreeLimit}
 use Rattle.words.specs.Calls.{shapeDegree}
 use Rattle.words.proofs.Answers.{number-refused, number-given}
+use Rattle.pages.proofs.WordPairs.{DegreeGiven, degree-given, refused-is}
 use Rattle.characters.specs.Calls.{shapeCharacterDegree}
-use Rattle.characters.proofs.WordPairs.{DegreeGiven, degree-given, refused-is, Identity, identity}
+use Rattle.characters.proofs.Evaluables.{Identity, identity}
 use Rattle.characters.proofs.Walks.{character-carried}
 use Rattle.characters.proofs.character_degree.Statement.{statement}
 use Rattle.characters.proofs.character_degree.Tie as tie

@@ -4,8 +4,8 @@ use Rattle.theory.specs.Character.{character}
 use Rattle.theory.specs.Digits.{digits, word}
 use Rattle.theory.specs.Hooks.{hooks, hookWords}
 use Rattle.theory.specs.Bounds.{factorial, S}
-use Rattle.characters.specs.Line.{hookLines}
-use Rattle.characters.specs.Sound.{soundLine, soundLines, sound}
+use Rattle.pages.specs.Line.{hookLines}
+use Rattle.pages.specs.Sound.{soundLine, soundLines, sound}
 use Rattle.characters.specs.Opening.{opening}
 use Rattle.characters.specs.Step.{nextLines, nextSlip, step}
 use Rattle.characters.specs.Examples.{Examples}

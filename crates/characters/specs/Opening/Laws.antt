@@ -25,14 +25,14 @@ use Rattle.theory.specs.Character.Order.{empty-on-empty}
 use Rattle.theory.specs.Bounds.{factorial, S}
 use Rattle.theory.specs.Refusals.{Check, firstOf, pairChecks, no-6, no-10}
 use Rattle.theory.specs.Refusals.Laws.{or-refused, answer-number, none-applies, both-pass, Matched, matched}
-use Rattle.characters.specs.Line.{Line, signedCharacter}
-use Rattle.characters.specs.Page.{waiting, padded, slipOf, blank, handed, Slip, Handed}
-use Rattle.characters.specs.Page.Words.{Plain}
-use Rattle.characters.specs.Page.Padded.{length-padded}
-use Rattle.characters.specs.Sound.Laws.{SoundLine, values, spans, Sound}
-use Rattle.characters.specs.Sound.Padded.{waiting-padded, sound-padded}
-use Rattle.characters.specs.Opening.{firstLines, firstSettled, openingChecks, opening}
-use Rattle.characters.specs.Run.{worth}
+use Rattle.pages.specs.Line.{Line, signedCharacter}
+use Rattle.pages.specs.declared.Slip.{Slip}
+use Rattle.pages.specs.Page.{waiting, padded, slipOf, blank, worth}
+use Rattle.pages.specs.Page.Words.{Plain}
+use Rattle.pages.specs.Page.Padded.{length-padded}
+use Rattle.pages.specs.Sound.Laws.{SoundLine, values, spans, Sound}
+use Rattle.pages.specs.Sound.Padded.{waiting-padded, sound-padded}
+use Rattle.characters.specs.Opening.{handed, firstLines, firstSettled, openingChecks, opening, Handed}
 
 pub record Opens (limit s c : ℕ) (page : List ℕ) : Type 0 where
   pub words : firstOf (pairChecks limit s c) ≡ 0
@@ -131,6 +131,8 @@ module _ (limit s c : ℕ) (page : List ℕ) where
     pub asks : worth slip (waiting slip left) ≡ shapeOf s on classOf c
     pub unstepped : slip .steps ≡ pos 0
     pub its-shape : slip .shape ≡ s
+    pub its-class : slip .class ≡ c
+    pub laid : left ≡ padded (waiting slip left) page
     pub same-length : length left ≡ length page
 
   pub opening-opened : opening limit s c page .0 .refused ≡ 0
@@ -154,5 +156,7 @@ module _ (limit s c : ℕ) (page : List ℕ) where
             ∙ f .asks;
         unstepped = refl;
         its-shape = refl;
+        its-class = refl;
+        laid = ap (λ ls. padded ls page) (sym (waiting-padded slip lines page refl (f .plain)));
         same-length = length-padded lines page (o .room);
       })

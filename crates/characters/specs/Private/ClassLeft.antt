@@ -5,8 +5,9 @@ use Rattle.theory.specs.Basics.{List, ℕ}
 use Rattle.theory.specs.Partition.{without}
 use Rattle.theory.specs.ClassWord.{classWord, classOf}
 use Rattle.theory.specs.Refusals.{firstOf, refusedOr}
+use Rattle.pages.specs.declared.Slip.{Slip}
+use Rattle.pages.specs.Page.{waiting, lineAt}
 use Rattle.characters.specs.declared.sessions.ClassLeft.{ClassLeft}
-use Rattle.characters.specs.Page.{waiting, lineAt, Slip}
 use Rattle.characters.specs.Step.{namedChecks}
 
 abbrev pub classLeft : ℕ → ℕ → ClassLeft

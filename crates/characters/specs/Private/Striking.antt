@@ -1,5 +1,4 @@
 -- What the private functions on waiting lines are asked.
---   soundDegree n l       the degree of a sound line l of degree n at most, and 0 of any other
 --   classWithout cycle w   a class word without one cycle: whether it has such a cycle, and the word that is left
 --   multiplied a b        a sign with another multiplied in: minus where just one of the two is
 --   Strikes ..            a sound line l is struck by a cycle of its class, `class` is the class word without it, and
@@ -10,18 +9,14 @@ use Prim.Native.Nat.{_≤_}
 use Rattle.theory.specs.Basics.{Bool, not, cond, List, _++_, map, length, drop, ℕ, ℤ, _=?_, sum}
 use Rattle.theory.specs.Partition.{times, without}
 use Rattle.theory.specs.ClassWord.{classWord, classOf}
+use Rattle.pages.specs.Line.{Line}
+use Rattle.pages.specs.Line.Hooks.{Has}
+use Rattle.pages.specs.Line.Weights.{weightOf}
+use Rattle.pages.specs.Page.{wordOf}
+use Rattle.pages.specs.Sound.Laws.{SoundLine}
 use Rattle.characters.specs.declared.lines.WithoutCycle.{WithoutCycle}
 use Rattle.characters.specs.declared.lines.HookLines.{HookLines}
-use Rattle.characters.specs.Line.{Line, lineDegree}
-use Rattle.characters.specs.Line.Hooks.{Has}
-use Rattle.characters.specs.Line.Weights.{weightOf}
-use Rattle.characters.specs.Page.{wordOf}
-use Rattle.characters.specs.Sound.{soundLine}
-use Rattle.characters.specs.Sound.Laws.{SoundLine}
 use Rattle.characters.specs.Step.{settledHooks, waitingHooks}
-
-unfoldable pub soundDegree : ℕ → Line → ℕ
-soundDegree n l = cond (soundLine n l) (lineDegree l) 0
 
 abbrev pub withoutCycle : Bool → ℕ → WithoutCycle
 withoutCycle found class = record { found = found; class = class }

@@ -14,17 +14,17 @@ use Rattle.theory.specs.ClassWord.{classOf}
 use Rattle.theory.specs.ClassWord.Laws.{good-class}
 use Rattle.theory.specs.Refusals.{Check, firstOf, no-8, no-9, no-10}
 use Rattle.theory.specs.Refusals.Laws.{none-applies, both-pass}
-use Rattle.characters.specs.Line.{Line}
-use Rattle.characters.specs.Line.Hooks.{hook-line-class}
-use Rattle.characters.specs.Page.{lineOf, waiting, lineAt, padded, Slip}
-use Rattle.characters.specs.Page.Words.{Plain, plain-line, plain-lines}
-use Rattle.characters.specs.Sound.{pageChecks}
-use Rattle.characters.specs.Sound.Laws.{Sound, page-passed, asked}
-use Rattle.characters.specs.Sound.Padded.{waiting-padded, sound-padded}
+use Rattle.pages.specs.Line.{Line}
+use Rattle.pages.specs.Line.Hooks.{hook-line-class}
+use Rattle.pages.specs.declared.Slip.{Slip}
+use Rattle.pages.specs.Page.{lineOf, waiting, lineAt, padded, worth}
+use Rattle.pages.specs.Page.Words.{Plain, plain-line, plain-lines}
+use Rattle.pages.specs.Sound.{pageChecks}
+use Rattle.pages.specs.Sound.Laws.{Sound, page-passed, asked}
+use Rattle.pages.specs.Sound.Padded.{waiting-padded, sound-padded}
 use Rattle.characters.specs.Step.{waitingHooks, nextLines, nextSlip, namedChecks, stepChecks}
 use Rattle.characters.specs.Step.Strike.{each-waiting}
 use Rattle.characters.specs.Step.Named.{Named, chosen-sound, next-each, next-sound, next-worth}
-use Rattle.characters.specs.Run.{worth}
 
 module _ (limit : ℕ) (slip : Slip) (page : List ℕ) (line cycle : ℕ) where
   abbrev lines : List Line

@@ -1,7 +1,6 @@
 -- A step that names one of the lines of a sound slip and a cycle of its class, however the lines are written down: the
 -- lines that come of it are sound again, and worth the same.
 --   Named ..            the line numbered i is there, and its class has the cycle
---   worth slip lines    what every step keeps: settled plus the signed waiting characters (Run.antt)
 use mathlib.Core.Path.{_≡_, refl, sym, _∙_, ap}
 use mathlib.Core.Bool.{false≢true}
 use Prim.Native.Nat.{_≤_, _<_}
@@ -16,15 +15,15 @@ use Rattle.theory.specs.Basics.Laws.{Each, each-append, sum-append}
 use Rattle.theory.specs.Basics.Keep.{each-parts, total-append}
 use Rattle.theory.specs.Bounds.{factorial}
 use Rattle.theory.specs.Bounds.Laws.{abs-add}
-use Rattle.characters.specs.Line.{Line, signedCharacter}
-use Rattle.characters.specs.Line.Hooks.{Has}
-use Rattle.characters.specs.Line.Weights.{weightOf}
-use Rattle.characters.specs.Page.{lineOf, lineAt, Slip}
-use Rattle.characters.specs.Sound.{lineValue, lineSpan}
-use Rattle.characters.specs.Sound.Laws.{SoundLine, asked, SoundLines}
+use Rattle.pages.specs.Line.{Line, signedCharacter}
+use Rattle.pages.specs.Line.Hooks.{Has}
+use Rattle.pages.specs.Line.Weights.{weightOf}
+use Rattle.pages.specs.declared.Slip.{Slip}
+use Rattle.pages.specs.Page.{lineOf, lineAt, worth}
+use Rattle.pages.specs.Sound.{lineValue, lineSpan}
+use Rattle.pages.specs.Sound.Laws.{SoundLine, asked, SoundLines}
 use Rattle.characters.specs.Step.{settledHooks, waitingHooks, nextLines, nextSlip}
 use Rattle.characters.specs.Step.Strike.{waiting-sound, strike-worth, strike-value, strike-span}
-use Rattle.characters.specs.Run.{worth}
 
 pub record Named (limit : ℕ) (slip : Slip) (lines : List Line) (i cycle : ℕ) : Type 0 where
   pub soundness : SoundLines limit slip lines

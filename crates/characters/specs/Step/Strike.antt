@@ -6,7 +6,7 @@ use native.Mathlib.Nat.{le-refl, mul-le-mul, mul-one}
 use native.Mathlib.Decide.{ℕ-discrete}
 use native.Mathlib.Omega.{arith}
 use borrow.Author.Tests.{eqb-true, eqb-false, not-true}
-use Rattle.theory.specs.Basics.{true, not, map, ℕ, _+_, _-_, _*_, ℤ, _+ℤ_, natAbs, total, sum}
+use Rattle.theory.specs.Basics.{true, not, map, ℕ, _+_, _*_, _+ℤ_, natAbs, total, sum}
 use Rattle.theory.specs.Basics.{_=?_}
 use Rattle.theory.specs.Basics.Laws.{Each, each-same, each-member, map-same, sum-same}
 use Rattle.theory.specs.Basics.Keep.{each-keep, sum-keep, total-keep}
@@ -19,17 +19,16 @@ use Rattle.theory.specs.ShapeWord.Words.{empty-word}
 use Rattle.theory.specs.ShapeWord.Laws.{rows-partition}
 use Rattle.theory.specs.ClassWord.{classOf}
 use Rattle.theory.specs.ClassWord.Laws.{good-class, parts-no-zero}
-use Rattle.theory.specs.Character.{_on_}
 use Rattle.theory.specs.Character.Order.{empty-on-empty}
 use Rattle.theory.specs.Hooks.Bounds.{step-factorial, step-S}
 use Rattle.theory.specs.Bounds.{factorial, S}
 use Rattle.theory.specs.Bounds.Laws.{factorial-positive}
-use Rattle.characters.specs.Line.{Line, lineDegree, signedCharacter, hookLines}
-use Rattle.characters.specs.Line.Hooks.{Has, HookLine, hook-lines, over-hook-lines, hook-line-class}
-use Rattle.characters.specs.Line.Hooks.{hook-rule-line}
-use Rattle.characters.specs.Line.Weights.{weightOf, sum-within, total-scaled}
-use Rattle.characters.specs.Sound.{lineValue, lineSpan}
-use Rattle.characters.specs.Sound.Laws.{SoundLine, values, spans}
+use Rattle.pages.specs.Line.{Line, lineDegree, signedCharacter, hookLines}
+use Rattle.pages.specs.Line.Hooks.{Has, HookLine, hook-lines, over-hook-lines, hook-line-class}
+use Rattle.pages.specs.Line.Hooks.{hook-rule-line}
+use Rattle.pages.specs.Line.Weights.{weightOf, sum-within, total-scaled}
+use Rattle.pages.specs.Sound.{lineValue, lineSpan}
+use Rattle.pages.specs.Sound.Laws.{SoundLine, values, spans}
 use Rattle.characters.specs.Step.{empty, settledHooks, waitingHooks}
 
 -- a hook line has the empty shape exactly when its degree is 0

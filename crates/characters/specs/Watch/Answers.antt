@@ -6,9 +6,10 @@ use Prim.Native.Nat.{_≤_}
 use native.Mathlib.Omega.{arith}
 use borrow.Author.Tests.{lt-leb}
 use Rattle.theory.specs.Basics.{List, ℕ, zero, suc}
+use Rattle.pages.specs.declared.Slip.{Slip}
+use Rattle.pages.specs.Page.{waiting}
 use Rattle.characters.specs.declared.Watched.{Watched}
 use Rattle.characters.specs.declared.Watched.the-variants.{Whole, Ratio, Refused}
-use Rattle.characters.specs.Page.{waiting, Slip}
 use Rattle.characters.specs.Watch.{Value, whole, quotient, none, reads, shown, watch}
 
 abbrev pub said : ℕ × Value → Watched

@@ -22,12 +22,12 @@ use Rattle.theory.specs.ShapeWord.{shapeOf}
 use Rattle.theory.specs.Bounds.{factorial}
 use Rattle.theory.specs.Bounds.Laws.{factorial-rises}
 use Rattle.theory.specs.Hooks.Degrees.{Positive, degree-positive, degree-bounded}
-use Rattle.characters.specs.Line.{Line, lineDegree, signedCharacter}
-use Rattle.characters.specs.Page.{lineOf}
-use Rattle.characters.specs.Page.Words.{unit-weight}
-use Rattle.characters.specs.Sound.{lineValue}
-use Rattle.characters.specs.Sound.Laws.{SoundLine}
-use Rattle.characters.specs.Sound.Bounds.{line-bounded}
+use Rattle.pages.specs.Line.{Line, lineDegree, signedCharacter}
+use Rattle.pages.specs.Page.{lineOf}
+use Rattle.pages.specs.Page.Words.{unit-weight}
+use Rattle.pages.specs.Sound.{lineValue}
+use Rattle.pages.specs.Sound.Laws.{SoundLine}
+use Rattle.pages.specs.Sound.Bounds.{line-bounded}
 use Rattle.characters.specs.Watch.{ratio}
 
 abbrev pub negative : ℤ → Bool

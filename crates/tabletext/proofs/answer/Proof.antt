@@ -3,10 +3,11 @@ use mathlib.Core.Path.{_≡_}
 use borrow.Author.Needs.{needs}
 use Rattle.theory.specs.Listing.{listing}
 use Rattle.theory.specs.Limits.{degreeLimit}
-use Rattle.tabletext.specs.Table.{decimal, field, table, chartable}
+use Rattle.text.specs.Text.{decimal, field}
+use Rattle.tabletext.specs.Table.{table, chartable}
 use Rattle.tabletext.specs.Table.Asked.{asks-nothing, asks-too-much, asks-for}
 use Rattle.tabletext.specs.Private.Reading.Laws.{nothing-read, number-read}
-use Rattle.tabletext.proofs.Answered.{answer-fits, answered}
+use Rattle.tabletext.proofs.Answered.{answered}
 use Rattle.tabletext.proofs.answer.Statement.{statement}
 use Rattle.tabletext.proofs.answer.Tie as tie
 
@@ -38,9 +39,7 @@ slice-aggregate-number : tie.Need-slice-aggregate-number
 slice-aggregate-number c = search needs
 
 number-requires : tie.Need-number-requires
-number-requires c κs =
-    let t = c .before .before in
-    answer-fits _ (t .before .before .before .args .out .now) (c .number-arg2 .given .0 .1) (nothing t)
+number-requires c κs = search needs
 
 returns : tie.Need-returns
 returns c =
@@ -50,19 +49,14 @@ slice-aggregate-number-2 : tie.Need-slice-aggregate-number-2
 slice-aggregate-number-2 c = search needs
 
 number-requires-2 : tie.Need-number-requires-2
-number-requires-2 c κs =
-    let t = c .before .before in
-    answer-fits _ (t .before .before .before .before .args .out .now) (c .number-arg4 .given .0 .1) (too-much t)
+number-requires-2 c κs = search needs
 
 returns-2 : tie.Need-returns-2
 returns-2 c =
     answered _ _ (c .before .number-arg4 .given .0 .1) (too-much (c .before .before .before)) (c .number2 .ensures)
 
 table-requires : tie.Need-table-requires
-table-requires c κs =
-    let t = c .before in
-    let out = t .before .before .before .before .args .out .now in
-    (t .if2 .left, answer-fits _ out (c .table-arg .given .0 .1) (whole t))
+table-requires c κs = search needs
 
 returns-3 : tie.Need-returns-3
 returns-3 c = answered _ _ (c .before .table-arg .given .0 .1) (whole (c .before .before)) (c .table .ensures)

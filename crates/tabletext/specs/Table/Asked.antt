@@ -1,20 +1,21 @@
 -- What an input asks for: one number of one or two digits, or none. What the program then writes.
 --   asking n   the line that asks for degree n
-use mathlib.Core.Path.{_≡_, refl, sym, _∙_, ap, ap₂}
-use mathlib.Core.Bool.{false≢true}
+use mathlib.Core.Path.{_≡_, refl, sym, _∙_, ap}
 use mathlib.Core.Logic.{_⊎_, inl, inr, ⊎-elim}
 use Prim.Native.Nat.{_≤_, _<_}
 use native.Mathlib.Decide.{ℕ-discrete}
 use native.Mathlib.Omega.{arith}
-use borrow.Author.Tests.{eqb-true, lt-ltb, le-ltb}
+use borrow.Author.Tests.{lt-ltb, le-ltb}
 use lib.ListN.{length-append, length-take}
 use Rattle.theory.specs.Basics.{Bool, true, List, [], _∷_, ℕ, zero, suc, length, take}
-use Rattle.theory.specs.Basics.{_=?_, every, downFrom}
+use Rattle.theory.specs.Basics.{every, downFrom}
 use Rattle.theory.specs.Basics.Laws.{Each, both}
 use Rattle.theory.specs.Basics.Keep.{each-keep}
 use Rattle.theory.specs.Listing.{listing, same}
-use Rattle.tabletext.specs.Table.{Text, decimal, field, table, asked, chartable}
-use Rattle.tabletext.specs.Table.Decimals.{decimal-length}
+use Rattle.text.specs.Text.{Text, decimal, field}
+use Rattle.text.specs.Text.Decimals.{decimal-length}
+use Rattle.text.specs.Reading.Bytes.{same-text}
+use Rattle.tabletext.specs.Table.{table, asked, chartable}
 
 abbrev pub asking : ℕ → Text
 asking n = field "degree=" (decimal n)
@@ -36,7 +37,7 @@ every-down test (suc k) e n h =
     ]
 
 -- a test that is computed
-pub every-number : (test : ℕ → Bool) → every test numbers ≡ true → (n : ℕ) → n < 100 → test n ≡ true
+every-number : (test : ℕ → Bool) → every test numbers ≡ true → (n : ℕ) → n < 100 → test n ≡ true
 every-number test e zero h = both (test 0) _ e .0
 every-number test e (suc n) h = every-down test 99 (both (test 0) _ e .1) n (omega arith)
 
@@ -46,15 +47,6 @@ each-down P (suc k) f = (f (suc k) (omega arith), each-down P k (λ n h. f n (om
 
 each-number : (P : ℕ → Type 0) → ((n : ℕ) → n < 100 → P n) → Each P numbers
 each-number P f = (f 0 (omega arith), each-down P 99 (λ n h. f n (omega arith)))
-
--- ---- the same text
-pub same-text : (t u : Text) → same t u ≡ true → t ≡ u
-same-text [] [] e = refl
-same-text [] (b ∷ u) e = absurd (false≢true e)
-same-text (a ∷ t) [] e = absurd (false≢true e)
-same-text (a ∷ t) (b ∷ u) e =
-    let h = both (a =? b) (same t u) e in
-    ap₂ (λ (x : ℕ) (l : Text). x ∷ l) (eqb-true a b (h .0)) (same-text t u (h .1))
 
 -- ---- one number, or none
 pub asked-for : (n : ℕ) → n < 100 → asked (asking n) ≡ n ∷ []

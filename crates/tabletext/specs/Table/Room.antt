@@ -28,10 +28,10 @@ use Rattle.theory.specs.Limits.{degreeLimit}
 use Rattle.theory.specs.Refusals.{Check, firstOf, refusedOr, no-12, no-13}
 use Rattle.theory.specs.Refusals.Laws.{none-applies}
 use Rattle.listing.specs.Private.Tables.{mostPartitions}
-use Rattle.tabletext.specs.Table.{Text, ascii, decimal, integer, commas, textLine, field}
+use Rattle.text.specs.Text.{Text, ascii, decimal, integer, commas, textLine, field}
+use Rattle.text.specs.Text.Decimals.{decimal-most, integer-length}
+use Rattle.text.specs.Text.Lists.{commas-length}
 use Rattle.tabletext.specs.Table.{classText, classLines, table, asked, chartable}
-use Rattle.tabletext.specs.Table.Decimals.{decimal-most, integer-length}
-use Rattle.tabletext.specs.Table.Lists.{commas-length}
 
 abbrev pub room : ℕ
 room = 1048576

@@ -7,9 +7,9 @@ use Rattle.theory.specs.ClassData.{classDivisor, classSize}
 use Rattle.theory.specs.Listing.{partitions, listing, same}
 use Rattle.theory.specs.Column.{column}
 use Rattle.theory.specs.Limits.{degreeLimit}
-use Rattle.tabletext.specs.Table.{Text, ascii, decimal, integer, commas}
+use Rattle.text.specs.Text.{Text, ascii, decimal, integer, commas}
+use Rattle.text.specs.Reading.Bytes.{same-text}
 use Rattle.tabletext.specs.Table.{classText, classLines, table, asked, chartable}
-use Rattle.tabletext.specs.Table.Asked.{same-text}
 
 unfoldable pub degree-3 : Text
 degree-3 =

@@ -10,7 +10,12 @@ use crate::report::Group;
 
 /// A list at the front of a run, and its length. Refuses 14.
 pub fn written<T: Clone>(list: &[T], run: &mut [T]) -> Answer<u64> {
-    let front = run.get_mut(..list.len()).ok_or(14u32)?;
+    written_or(14, list, run)
+}
+
+/// A list at the front of a run, and its length; or this refusal, where there is no room for it.
+pub fn written_or<T: Clone>(refused: u32, list: &[T], run: &mut [T]) -> Answer<u64> {
+    let front = run.get_mut(..list.len()).ok_or(refused)?;
     front.clone_from_slice(list);
     Ok(list.len() as u64)
 }

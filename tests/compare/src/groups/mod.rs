@@ -5,10 +5,14 @@ mod draws;
 pub mod ends;
 pub mod examples;
 pub mod formulas;
+pub mod handmade;
 pub mod lists;
 mod made;
 pub mod pairs;
 pub mod sessions;
+pub mod sizes;
+mod storing;
+pub mod texts;
 pub mod words;
 mod work;
 

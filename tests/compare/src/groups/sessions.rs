@@ -1,9 +1,11 @@
-//! Random sessions: 200,000 openings and steps over shapes of all degrees and pages of many lengths, with wrong lines,
-//! cycles, slips and pages among them. After each, slip, page and watches are compared; after each that is accepted,
-//! what the library shows as settled (3) and as waiting (4), added up, with the character that the session began with.
+//! Random sessions: 200,000 openings and steps, with saves and loads between them, over shapes of all degrees and pages
+//! of many lengths, with wrong lines, cycles, slips, pages and texts among them. After each, slip, page and watches are
+//! compared; after each that is accepted, what the library shows as settled (3) and as waiting (4), added up, with the
+//! character that the session began with.
 
 use super::draws::{listed, random_parts, random_word};
 use super::made::{damaged, made_up, wrong_cycle, wrong_line};
+use super::storing::Store;
 use super::work::Work;
 use super::Tally;
 use crate::calls;
@@ -17,21 +19,22 @@ use crate::report::Group;
 
 const CALLS: usize = 200_000;
 
-/// Page lengths; what an opening finds there is arbitrary.
-const LENGTHS: [usize; 16] = [0, 1, 1, 2, 2, 3, 4, 5, 6, 8, 12, 20, 60, 300, 4096, 4097];
+/// Page lengths; what an opening or a load finds there is arbitrary.
+pub const LENGTHS: [usize; 16] = [0, 1, 1, 2, 2, 3, 4, 5, 6, 8, 12, 20, 60, 300, 4096, 4097];
 
 /// A slip and its page.
-type State = (Slip, Vec<u64>);
+pub type State = (Slip, Vec<u64>);
 
 /// Everything that a random session needs at hand.
-struct Desk<'a> {
-    characters: &'a Characters,
-    random: Random,
-    group: &'a mut Group,
+pub struct Desk<'a> {
+    pub characters: &'a Characters,
+    pub random: Random,
+    pub group: &'a mut Group,
     work: Work,
     calls: usize,
     called: Tally,
     watched: Tally,
+    pub store: Store,
 }
 
 pub fn run(characters: &Characters, group: &mut Group) {
@@ -43,31 +46,41 @@ pub fn run(characters: &Characters, group: &mut Group) {
         calls: 0,
         called: Tally::default(),
         watched: Tally::default(),
+        store: Store::default(),
     };
     while desk.calls < CALLS {
         desk.session();
     }
-    let Desk { group, calls, called, watched, .. } = desk;
+    let Desk { group, calls, called, watched, store, .. } = desk;
     group.same(called.lacking(&[0, 1, 2, 3, 4, 5, 6, 7, 8, 9, 10], 100), vec![], || "refusals hardly met".to_string());
     group.same(watched.lacking(&[0, 6, 7, 8, 15], 1000), vec![], || "watch refusals hardly met".to_string());
     group.note(format!("{calls} calls"));
     group.note(called.said());
     group.note(format!("watches: {}", watched.said()));
+    store.close(group);
 }
 
 impl Desk<'_> {
     /// One session, from an opening or from a sound page that no opening made, to its end or until it is laid aside.
     fn session(&mut self) {
         let begun = if self.random.once_in(4) { Some(self.made_up()) } else { self.open() };
-        let Some((mut state, total)) = begun else { return };
+        let Some((mut state, mut total)) = begun else { return };
         let mut left = 1 + self.random.below(40);
         self.conserve(&state, total);
         while self.watch(&state) && left > 0 {
             if self.calls == CALLS || state.0.lines == 0 && !self.random.once_in(4) {
                 return;
             }
-            if let Some(next) = self.call(&state) {
-                state = next;
+            let next = match self.random.below(6) {
+                0 => {
+                    self.save(&state, total);
+                    None
+                }
+                1 => self.load(),
+                _ => self.call(&state).map(|state| (state, total)),
+            };
+            if let Some(next) = next {
+                (state, total) = next;
                 self.conserve(&state, total);
             }
             left -= 1;
@@ -76,10 +89,15 @@ impl Desk<'_> {
 
     /// A sound slip and page that no opening made, and what the model says that is settled and waits there.
     fn made_up(&mut self) -> (State, i64) {
-        let (slip, page) = made_up(self.characters, &mut self.random);
-        let lines = sessions::sound(&slip, &page).unwrap();
-        let waiting: i64 = lines.iter().map(|line| line.character(self.characters)).sum();
-        ((slip, page), slip.settled + waiting)
+        let state = made_up(self.characters, &mut self.random);
+        let total = self.total(&state);
+        (state, total)
+    }
+
+    /// What the model says that is settled and waits.
+    pub fn total(&self, (slip, page): &State) -> i64 {
+        let lines = sessions::sound(slip, page).unwrap();
+        slip.settled + lines.iter().map(|line| line.character(self.characters)).sum::<i64>()
     }
 
     /// An opening, in three cases of eight on words that need not be good; where it is not refused, the state and the

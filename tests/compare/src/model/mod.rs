@@ -1,14 +1,15 @@
-//! Document 01 once more, by other means than the library's, and with Vec, String and HashMap at will:
+//! Document 01, and P1 of document 02, once more, by other means than the library's, and with Vec, String and HashMap at will:
 //! - words are read and written as strings of digits;
 //! - characters come from permutation characters, made orthogonal: no hook, no sign rule and no beta-number;
 //! - what a strike leaves comes from the rules of 1954 on lists of rows;
-//! - a session is a Vec of lines.
+//! - a session is a Vec of lines, and its text is read by splitting.
 //!
 //! A call that is refused is an `Err` with the refusal number.
 
 pub mod characters;
 pub mod partitions;
 pub mod sessions;
+pub mod texts;
 pub mod words;
 
 /// The largest degree.

@@ -3,9 +3,9 @@ use mathlib.Core.Path.{_∙_, ap}
 use native.Mathlib.Omega.{arith}
 use borrow.Author.Needs.{needs}
 use Rattle.theory.specs.Basics.{List, ℤ}
+use Rattle.words.specs.Answers.{atFront}
 use Rattle.characters.specs.Private.Places.{shapePlaces}
 use Rattle.characters.specs.Private.Columns.{entries}
-use Rattle.words.specs.Answers.{atFront}
 use Rattle.characters.proofs.Entries.{entries-column}
 use Rattle.characters.proofs.columns.write.Statement.{statement}
 use Rattle.characters.proofs.columns.write.Tie as tie

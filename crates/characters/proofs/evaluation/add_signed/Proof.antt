@@ -1,5 +1,5 @@
 -- `characters::evaluation::add_signed` meets its contract: the two numbers have room together.
-use Rattle.characters.proofs.Signed.{sum-fits, sum-is, difference-fits, difference-is}
+use Rattle.pages.proofs.Signed.{sum-fits, sum-is, difference-fits, difference-is}
 use Rattle.characters.proofs.evaluation.add_signed.Statement.{statement}
 use Rattle.characters.proofs.evaluation.add_signed.Tie as tie
 

@@ -1,6 +1,6 @@
 -- `characters::lines::add_line` meets its contract: the value of the line's words has room beside the sum.
 use borrow.Author.Needs.{needs}
-use Rattle.characters.proofs.SoundLines.{class-below, line-evaluable, value-room, value-added}
+use Rattle.characters.proofs.LineValues.{class-below, line-evaluable, value-room, value-added}
 use Rattle.characters.proofs.lines.add_line.Statement.{statement}
 use Rattle.characters.proofs.lines.add_line.Tie as tie
 

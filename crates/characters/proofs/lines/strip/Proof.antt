@@ -10,7 +10,7 @@ use borrow.Author.Needs.{needs}
 use Rattle.theory.specs.Hooks.{Hook}
 use Rattle.theory.specs.Hooks.Marks.{markedHook}
 use Rattle.theory.specs.Digits.{bit}
-use Rattle.characters.specs.Page.{lineOf}
+use Rattle.pages.specs.Page.{lineOf}
 use Rattle.characters.specs.Private.Striking.{multiplied}
 use Rattle.characters.proofs.Strips.{Stripping, NextHookLine, cycle-short, strip-start, strip-next, strip-end}
 use Rattle.characters.proofs.lines.strip.Statement.{statement}
@@ -107,7 +107,7 @@ loop-again c =
     (next (p .before .before .before) .goes (sym (leaves-is p) ∙ c .before .if1 .taken))
 
 word-requires : tie.Need-word-requires Inv-loop μ-loop
-word-requires c κs = rw (leaves-is (c .before)) (next (c .before .before .before .before) .small)
+word-requires c κs = search needs
 
 mul-strip : tie.Need-mul-strip Inv-loop μ-loop
 mul-strip c = search needs
@@ -128,7 +128,9 @@ loop-less-2 c =
 loop-again-2 : tie.Need-loop-again-2 Inv-loop μ-loop
 loop-again-2 c =
     let p = c .before .before in
-    rw (c .word .ensures, sign-is p, leaves-is p)
+    let small = next (p .before .before .before) .small in
+    let plus : hook p .leaves % 2 ^ 31 ≡ hook p .leaves = omega arith in
+    rw (c .word .ensures, sign-is p, leaves-is p, plus)
     (next (p .before .before .before) .stays (λ none. c .before .if1 .left (leaves-is p ∙ none)))
 
 same-length : tie.Need-same-length Inv-loop μ-loop

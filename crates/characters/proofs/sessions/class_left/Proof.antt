@@ -5,12 +5,12 @@ use borrow.Author.Needs.{needs}
 use Rattle.theory.specs.Basics.{getD}
 use Rattle.theory.specs.Refusals.{firstOf}
 use Rattle.theory.specs.Limits.{degreeLimit}
-use Rattle.characters.specs.Page.{lineOf}
-use Rattle.characters.specs.Sound.{pageChecks}
-use Rattle.characters.specs.Sound.Laws.{Sound, page-passed}
+use Rattle.pages.specs.Page.{lineOf}
+use Rattle.pages.specs.Sound.{pageChecks}
+use Rattle.pages.specs.Sound.Laws.{Sound, page-passed}
+use Rattle.pages.proofs.SoundPages.{sound-line-at}
 use Rattle.characters.specs.Private.Striking.{classWithout}
-use Rattle.characters.proofs.SoundLines.{class-below}
-use Rattle.characters.proofs.SoundPages.{sound-line-at}
+use Rattle.characters.proofs.LineValues.{class-below}
 use Rattle.characters.proofs.Steps.{page-refuses, no-such-line, no-such-cycle, cycle-found}
 use Rattle.characters.proofs.sessions.class_left.Statement.{statement}
 use Rattle.characters.proofs.sessions.class_left.Tie as tie

@@ -1,7 +1,7 @@
 -- `characters::sessions::next_slip` meets its contract: both sums have room.
 use borrow.Author.Needs.{needs}
 use lib.IntN.{pos}
-use Rattle.characters.proofs.Signed.{sum-is}
+use Rattle.pages.proofs.Signed.{sum-is}
 use Rattle.characters.proofs.sessions.next_slip.Statement.{statement}
 use Rattle.characters.proofs.sessions.next_slip.Tie as tie
 

@@ -1,10 +1,10 @@
 -- `characters::sessions::open` meets its contract: each return is the first check that applies, or the opened page.
-use mathlib.Core.Path.{_∙_, sym}
+use mathlib.Core.Path.{_≡_, _∙_, sym}
+use Prim.Native.Nat.{_%_, _^_}
 use native.Mathlib.Omega.{arith}
 use borrow.Author.Needs.{needs}
 use Rattle.theory.specs.Limits.{degreeLimit}
-use Rattle.theory.specs.ShapeWord.Good.{good-shape}
-use Rattle.characters.proofs.WordPairs.{Pair, pair-refused, pair-passed}
+use Rattle.pages.proofs.WordPairs.{Pair, pair-refused, pair-passed}
 use Rattle.characters.proofs.Openings.{words-refuse, page-refuses, empty-opens, room-refuses, line-opens}
 use Rattle.characters.proofs.sessions.open.Statement.{statement}
 use Rattle.characters.proofs.sessions.open.Tie as tie
@@ -63,10 +63,7 @@ clear-requires-2 : tie.Need-clear-requires-2
 clear-requires-2 c κs = search needs
 
 word-requires : tie.Need-word-requires
-word-requires c κs =
-    let else2 = c .before .before .before .before .before .before .before in
-    let start = else2 .before .before .before .before .before in
-    omega (arith, good-shape (start .args .shape) (pair (else2 .before) .evaluable .good) .below)
+word-requires c κs = search needs
 
 slice-write-page : tie.Need-slice-write-page
 slice-write-page c = search needs
@@ -80,7 +77,10 @@ returns-5 c =
     let else3 = else4 .before in
     let else2 = else3 .before .before in
     let p = pair (else2 .before) in
-    rw (c .before .before .before .clear2 .ensures, c .word .ensures)
+    let below = p .words .shape .good .below in
+    let s = else2 .before .before .before .before .before .args .shape in
+    let plus : s % 2 ^ 31 ≡ s = omega arith in
+    rw (c .before .before .before .clear2 .ensures, c .word .ensures, plus)
     (line-opens _ _ _ _ (p .none) (else2 .if2 .left) (λ none. else3 .if3 .left (p .degree ∙ none)) (else4 .if4 .left))
 
 pub open-spec : {M : Type 1} → statement M

@@ -3,9 +3,9 @@ use native.Mathlib.Omega.{arith}
 use mathlib.Core.Path.{_≡_, _∙_, ap}
 use borrow.Author.Needs.{needs}
 use Rattle.theory.specs.Limits.{degreeLimit}
+use Rattle.pages.specs.Page.{lineOf}
+use Rattle.pages.specs.Sound.Laws.{line-wider}
 use Rattle.characters.specs.Calls.{shapeCharacterDegree}
-use Rattle.characters.specs.Page.{lineOf}
-use Rattle.characters.specs.Sound.Laws.{line-wider}
 use Rattle.characters.proofs.Watches.{alone-fits, ratio-fits, ratio-is}
 use Rattle.characters.proofs.sessions.ratio.Statement.{statement}
 use Rattle.characters.proofs.sessions.ratio.Tie as tie

@@ -10,12 +10,12 @@ use borrow.Author.Needs.{needs}
 use Rattle.theory.specs.Basics.{getD}
 use Rattle.theory.specs.Limits.{degreeLimit}
 use Rattle.theory.specs.Bounds.Laws.{largestLimit}
-use Rattle.characters.specs.Line.{signedCharacter}
-use Rattle.characters.specs.Page.{lineOf, waiting, lineAt}
-use Rattle.characters.specs.Sound.Laws.{SoundLine, line-wider}
+use Rattle.pages.specs.Line.{signedCharacter}
+use Rattle.pages.specs.Page.{lineOf, waiting, lineAt}
+use Rattle.pages.specs.Sound.Laws.{SoundLine, line-wider}
+use Rattle.pages.proofs.Signed.{carried}
+use Rattle.pages.proofs.SoundPages.{line-word, sound-line-at}
 use Rattle.characters.specs.Watch.{whole, quotient, ratio, shown}
-use Rattle.characters.proofs.Signed.{carried}
-use Rattle.characters.proofs.SoundPages.{line-word, sound-line-at}
 use Rattle.characters.proofs.Watches.{watch-refused, Watching, watching, shows-by, waiting-sound, waiting-fits}
 use Rattle.characters.proofs.Watches.{waiting-carried, last-kind, alone-fits, alone-carried}
 use Rattle.characters.proofs.sessions.watch.Statement.{statement}

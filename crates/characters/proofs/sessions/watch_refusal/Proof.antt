@@ -3,7 +3,7 @@ use mathlib.Core.Path.{_≡_, sym, _∙_}
 use borrow.Author.Needs.{needs}
 use Rattle.theory.specs.Refusals.{firstOf}
 use Rattle.theory.specs.Limits.{degreeLimit}
-use Rattle.characters.specs.Sound.{pageChecks}
+use Rattle.pages.specs.Sound.{pageChecks}
 use Rattle.characters.proofs.Watches.{page-first, kind-zero, kind-above, line-unasked, line-missing, line-there}
 use Rattle.characters.proofs.sessions.watch_refusal.Statement.{statement}
 use Rattle.characters.proofs.sessions.watch_refusal.Tie as tie

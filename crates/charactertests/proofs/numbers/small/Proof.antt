@@ -1,6 +1,6 @@
 -- `charactertests::numbers::small` meets its contract: both tests failed for the number that is given back.
 use borrow.Author.Needs.{needs}
-use Rattle.characters.proofs.Signed.{carried}
+use Rattle.pages.proofs.Signed.{carried}
 use Rattle.charactertests.proofs.Sizes.{size-between}
 use Rattle.charactertests.proofs.numbers.small.Statement.{statement}
 use Rattle.charactertests.proofs.numbers.small.Tie as tie

@@ -38,7 +38,7 @@ sized c = c .before .before
 word : (c : tie.After-class-at) → c .class-at .result .word ≡ classWord (class (begin c))
 word c =
     let s = begin c in
-    word-of-rank degreeLimit (omega arith) (s .args .degree) (s .args .rank) (s .pre .0) (s .pre .1 .0) _
+    word-of-rank degreeLimit (omega arith) (s .args .degree) (s .args .rank) (s .pre .0) (s .pre .1) _
     (c .class-at .ensures)
 
 parts : (c : tie.After-parts2)
@@ -46,7 +46,7 @@ parts : (c : tie.After-parts2)
 parts c =
     let a = worded c in
     let s = begin a in
-    parts-of-rank degreeLimit (omega arith) (s .args .degree) (s .args .rank) (s .pre .0) (s .pre .1 .0) _ (word a) _ _
+    parts-of-rank degreeLimit (omega arith) (s .args .degree) (s .args .rank) (s .pre .0) (s .pre .1) _ (word a) _ _
     (c .parts2 .ensures)
 
 size : (c : tie.After-size)
@@ -55,7 +55,7 @@ size : (c : tie.After-size)
 size c =
     let a = worded (parted c) in
     let s = begin a in
-    size-of-rank degreeLimit (omega arith) (s .args .degree) (s .args .rank) (s .pre .0) (s .pre .1 .0) _ (word a) _
+    size-of-rank degreeLimit (omega arith) (s .args .degree) (s .args .rank) (s .pre .0) (s .pre .1) _ (word a) _
     (c .size .ensures)
 
 values : (c : tie.After-column) → let s = begin (worded (parted (sized c))) in
@@ -63,7 +63,7 @@ values : (c : tie.After-column) → let s = begin (worded (parted (sized c))) in
 values c =
     let a = worded (parted (sized c)) in
     let s = begin a in
-    column-of-rank degreeLimit (omega arith) (s .args .degree) (s .args .rank) (s .pre .0) (s .pre .1 .0) _ (word a) _
+    column-of-rank degreeLimit (omega arith) (s .args .degree) (s .args .rank) (s .pre .0) (s .pre .1) _ (word a) _
     (listing-few _ (s .pre .0)) _ _ (c .column .ensures)
 
 -- what the lines are made of is the class's own
@@ -97,26 +97,24 @@ column-requires c κs = search needs
 array-share-prefix-parts : tie.Need-array-share-prefix-parts
 array-share-prefix-parts c = parts (parted (sized (c .before))) .inside
 
-slice-aggregate-class : tie.Need-slice-aggregate-class
-slice-aggregate-class c = sym (length-take-le _ _ (parts (parted (sized (c .before .before))) .inside))
+slice-aggregate-lines : tie.Need-slice-aggregate-lines
+slice-aggregate-lines c = sym (length-take-le _ _ (parts (parted (sized (c .before .before))) .inside))
 
-cast-class : tie.Need-cast-class
-cast-class c =
+cast-lines : tie.Need-cast-lines
+cast-lines c =
     let s = c .before .before .before .before .before .before in
     let a = begin (worded (parted s)) in
-    let most = size-fits degreeLimit (omega arith) (a .args .degree) (a .args .rank) (a .pre .0) (a .pre .1 .0) in
+    let most = size-fits degreeLimit (omega arith) (a .args .degree) (a .args .rank) (a .pre .0) (a .pre .1) in
     rw (size s) (tt, record { fits = omega (arith, most) })
 
 array-share-prefix-values : tie.Need-array-share-prefix-values
 array-share-prefix-values c = values (c .before .before .before .before) .inside
 
-slice-aggregate-class-2 : tie.Need-slice-aggregate-class-2
-slice-aggregate-class-2 c = sym (length-take-le _ _ (values (c .before .before .before .before .before) .inside))
+slice-aggregate-lines-2 : tie.Need-slice-aggregate-lines-2
+slice-aggregate-lines-2 c = sym (length-take-le _ _ (values (c .before .before .before .before .before) .inside))
 
-class-requires : tie.Need-class-requires
-class-requires c κs =
-    let v = c .before .before .before .before .before .before in
-    rw (text v) (begin (worded (parted (sized v))) .pre .1 .1)
+lines-requires : tie.Need-lines-requires
+lines-requires c κs = search needs
 
 same-length : tie.Need-same-length
 same-length c = search needs
@@ -124,7 +122,7 @@ same-length c = search needs
 returns : tie.Need-returns
 returns c =
     let k = c .before .before in
-    rw (← text (k .before .before .before .before .before .before .before)) (k .class .ensures)
+    rw (← text (k .before .before .before .before .before .before .before)) (k .lines .ensures)
 
 pub class-spec : {M : Type 1} → statement M
 class-spec =
@@ -137,10 +135,10 @@ class-spec =
     slice-aggregate-column
     column-requires
     array-share-prefix-parts
-    slice-aggregate-class
-    cast-class
+    slice-aggregate-lines
+    cast-lines
     array-share-prefix-values
-    slice-aggregate-class-2
-    class-requires
+    slice-aggregate-lines-2
+    lines-requires
     same-length
     returns)

@@ -6,11 +6,11 @@ use Prim.Native.Nat.{_≤_, _<_}
 use lib.Seq.{take-all}
 use borrow.Author.Needs.{needs}
 use Rattle.theory.specs.Basics.{[], _++_, suc, _-_, length, getD, take, joined}
-use Rattle.theory.specs.Basics.Laws.{joined-next, joined-front}
+use Rattle.theory.specs.Basics.Laws.{joined-next}
 use Rattle.theory.specs.Listing.{listing}
+use Rattle.text.specs.Wrote.{Wrote}
+use Rattle.text.specs.Wrote.Laws.{wrote-none, wrote-then, wrote-length}
 use Rattle.tabletext.specs.Table.{classLines}
-use Rattle.tabletext.specs.Private.Writing.{Wrote}
-use Rattle.tabletext.specs.Private.Writing.Laws.{wrote-none, wrote-then, wrote-room, wrote-length}
 use Rattle.tabletext.proofs.table.classes.Statement.{statement}
 use Rattle.tabletext.proofs.table.classes.Tie as tie
 
@@ -23,7 +23,7 @@ abbrev μ-loop : tie.MeasureT-loop
 
 within : (c : tie.In-loop Inv-loop μ-loop)
     → c .before .loop .rank < length (listing (c .before .before .before .args .degree))
-within c = omega (arith, c .before .before .before .pre .1 .0)
+within c = omega (arith, c .before .before .before .pre .1)
 
 next : (c : tie.In-loop Inv-loop μ-loop) → let n = c .before .before .before .args .degree in
     let r = c .before .loop .rank in
@@ -32,21 +32,12 @@ next : (c : tie.In-loop Inv-loop μ-loop) → let n = c .before .before .before 
 next c = joined-next classLines _ [] _ (within c)
 
 loop-holds : tie.Need-loop-holds Inv-loop μ-loop
-loop-holds c = (omega arith, wrote-none _ _)
+loop-holds c = (omega arith, wrote-none _ _ (omega arith))
 
 class-requires : tie.Need-class-requires Inv-loop μ-loop
 class-requires c κs =
     let l = c .before in
-    let s = l .before .before .before in
-    let list = listing (s .args .degree) in
-    let front = joined-front classLines list (suc (l .before .loop .rank)) in (
-      s .pre .0,
-      (
-        within l,
-        wrote-room (l .before .loop .inv .1) (classLines (getD list (l .before .loop .rank) []))
-            (rw (← next l) (omega (arith, s .pre .1 .1, front))),
-      ),
-    )
+    (l .before .before .before .pre .0, within l)
 
 add-rank : tie.Need-add-rank Inv-loop μ-loop
 add-rank c = search needs
@@ -59,7 +50,7 @@ loop-again c =
     let k = c .before .before in
     let l = k .before .before in
     let b = l .before in
-    (omega arith, rw (add-one (b .loop .rank), next l) (wrote-then (b .loop .inv .1) (k .class .ensures)))
+    (omega arith, rw (add-one (b .loop .rank), next l) (wrote-then (b .loop .inv .1) (omega arith) (k .class .ensures)))
 
 same-length : tie.Need-same-length Inv-loop μ-loop
 same-length c = wrote-length (c .before .loop .inv .1)
@@ -68,7 +59,7 @@ returns : tie.Need-returns Inv-loop μ-loop
 returns c =
     let s = c .before .before .before in
     let l = c .before .loop in
-    let all = take-all (l .rank) (listing (s .args .degree)) (omega (arith, s .pre .1 .0, c .loop-test .left)) in
+    let all = take-all (l .rank) (listing (s .args .degree)) (omega (arith, s .pre .1, c .loop-test .left)) in
     rw all at (l .inv .1)
 
 pub classes-spec : {M : Type 1} → statement M

@@ -1,0 +1,94 @@
+// Whether a slip and a page are sound, in plain Rust: the judge of the twins.
+use crate::library::Slip;
+
+pub const PAGE_LIMIT: usize = 4096;
+
+const LIMIT: usize = 16;
+
+// d! and S(d) for the degrees 0 to 16.
+const FACTORIALS: [u64; LIMIT + 1] = table(false);
+const SPANS: [u64; LIMIT + 1] = table(true);
+
+const fn table(spans: bool) -> [u64; LIMIT + 1] {
+    let mut all = [spans as u64 ^ 1; LIMIT + 1];
+    let mut d = 1;
+    while d <= LIMIT {
+        all[d] = spans as u64 + d as u64 * all[d - 1];
+        d += 1;
+    }
+    all
+}
+
+fn shape_degree(word: u32) -> Option<u32> {
+    if word >= 1 << 30 {
+        return None;
+    }
+    let (mut rest, mut at, mut zeros, mut pairs) = (word, 0, 0, 0);
+    while rest != 0 {
+        let one = rest.leading_zeros();
+        zeros += one - at - 1;
+        pairs += zeros;
+        at = one;
+        rest -= 1 << (31 - one);
+    }
+    Some(pairs).filter(|&degree| degree <= LIMIT as u32)
+}
+
+fn class_degree(word: u32) -> Option<u32> {
+    if word >= 1 << 31 {
+        return None;
+    }
+    let (mut rest, mut at, mut last) = (word, 0, 31);
+    while rest != 0 {
+        let one = rest.leading_zeros();
+        if last < one - at {
+            return None;
+        }
+        last = one - at;
+        at = one;
+        rest -= 1 << (31 - one);
+    }
+    Some(at).filter(|&degree| degree <= LIMIT as u32)
+}
+
+// What n! and S(n) leave to the lines: each takes its d! from the one and its S(d) from the other.
+#[derive(Clone, Copy)]
+pub struct Budget {
+    degree: u32,
+    value: u64,
+    span: u64,
+}
+
+impl Budget {
+    pub fn of(slip: &Slip) -> Option<Budget> {
+        let (degree, other) = (shape_degree(slip.shape)?, class_degree(slip.class_word)?);
+        if degree != other || slip.steps < 0 {
+            return None;
+        }
+        let value = FACTORIALS[degree as usize].checked_sub(slip.settled.unsigned_abs())?;
+        let span = SPANS[degree as usize].checked_sub(slip.steps as u64)?;
+        Some(Budget { degree, value, span })
+    }
+
+    // What is left after a line of a shape and a class of these degrees.
+    pub fn spend(&mut self, shape: u32, class: u32) -> Option<()> {
+        if shape != class || shape == 0 || shape > self.degree {
+            return None;
+        }
+        self.value = self.value.checked_sub(FACTORIALS[shape as usize])?;
+        self.span = self.span.checked_sub(SPANS[shape as usize])?;
+        Some(())
+    }
+}
+
+pub fn sound(slip: &Slip, page: &[u64]) -> bool {
+    let Some(mut budget) = Budget::of(slip) else { return false };
+    let lines = slip.lines as usize;
+    lines <= page.len()
+        && page[..lines].iter().all(|&line| {
+            let shape = shape_degree((line >> 32) as u32 % (1 << 31));
+            let class = class_degree(line as u32);
+            shape.zip(class).and_then(|(shape, class)| budget.spend(shape, class)).is_some()
+        })
+        && page[lines..].iter().all(|&word| word == 0)
+}

@@ -1,0 +1,150 @@
+-- What a sound line, sound lines and a sound slip and page are, clause by clause: the tests of Sound as records, there
+-- and back.
+--   SoundLine n l                 soundLine n l, as a record; SoundLines and Sound, the same of lines and of a page
+--   asked slip                    the degree of the shape that the slip asks for: the n of document 01
+--   values lines, spans lines     what the lines count in all
+use mathlib.Core.Path.{_≡_, refl}
+use Prim.Native.Nat.{_≤_}
+use native.Mathlib.Nat.{le-trans}
+use lib.Signed.{nonNeg}
+use borrow.Author.Tests.{leb-true, eqb-true, le-leb, eq-eqb, ltb-false, not-false}
+use Rattle.theory.specs.Basics.{true, List, map, length, drop, ℕ, _+_, natAbs, _=?_, _≤?_, every, total}
+use Rattle.theory.specs.Basics.Laws.{both, Each, each-same}
+use Rattle.theory.specs.Basics.Keep.{every-each, each-every}
+use Rattle.theory.specs.Limits.{pageLimit}
+use Rattle.theory.specs.Partition.{degree}
+use Rattle.theory.specs.ShapeWord.{goodShape, shapeOf}
+use Rattle.theory.specs.ClassWord.{goodClass, classOf}
+use Rattle.theory.specs.Bounds.{factorial, S}
+use Rattle.theory.specs.Refusals.{firstOf, pairChecks}
+use Rattle.theory.specs.Refusals.Laws.{none-applies}
+use Rattle.pages.specs.Line.{Line, lineDegree}
+use Rattle.pages.specs.Page.{waiting, Slip}
+use Rattle.pages.specs.Sound.{soundLine, lineValue, lineSpan, soundLines, sound, pageChecks}
+
+-- ---- a line
+pub record SoundLine (n : ℕ) (l : Line) : Type 0 where
+  pub shape : goodShape (l .shape) ≡ true
+  pub class : goodClass (l .class) ≡ true
+  pub degrees : lineDegree l ≡ degree (classOf (l .class))
+  pub some : 1 ≤ lineDegree l
+  pub within : lineDegree l ≤ n
+
+pub sound-line : (n : ℕ) (l : Line) → soundLine n l ≡ true → SoundLine n l
+unfolding soundLine
+sound-line n l t =
+    let e = both _ (lineDegree l ≤? n) t in
+    let d = both _ (1 ≤? lineDegree l) (e .0) in
+    let c = both _ (lineDegree l =? degree (classOf (l .class))) (d .0) in
+    let b = both (goodShape (l .shape)) (goodClass (l .class)) (c .0) in
+    record {
+      shape = b .0;
+      class = b .1;
+      degrees = eqb-true (lineDegree l) (degree (classOf (l .class))) (c .1);
+      some = leb-true 1 (lineDegree l) (d .1);
+      within = leb-true (lineDegree l) n (e .1);
+    }
+
+pub line-sound : {n : ℕ} {l : Line} → SoundLine n l → soundLine n l ≡ true
+unfolding soundLine
+line-sound {n} {l} s = rw (
+  s .shape,
+  s .class,
+  eq-eqb (lineDegree l) (degree (classOf (l .class))) (s .degrees),
+  le-leb 1 (lineDegree l) (s .some),
+  le-leb (lineDegree l) n (s .within),
+)
+
+pub line-wider : {m n : ℕ} {l : Line} → m ≤ n → SoundLine m l → SoundLine n l
+line-wider w s = record {
+  shape = s .shape;
+  class = s .class;
+  degrees = s .degrees;
+  some = s .some;
+  within = le-trans (s .within) w;
+}
+
+-- ---- slip and lines
+abbrev pub asked : Slip → ℕ
+asked slip = degree (shapeOf (slip .shape))
+
+abbrev pub values : List Line → ℕ
+values lines = total (map lineValue lines)
+
+abbrev pub spans : List Line → ℕ
+spans lines = total (map lineSpan lines)
+
+pub record SoundLines (limit : ℕ) (slip : Slip) (lines : List Line) : Type 0 where
+  pub words : firstOf (pairChecks limit (slip .shape) (slip .class)) ≡ 0
+  pub each : Each (SoundLine (asked slip)) lines
+  pub value : natAbs (slip .settled) + values lines ≤ factorial (asked slip)
+  pub forward : nonNeg (slip .steps) ≡ true
+  pub span : natAbs (slip .steps) + spans lines ≤ S (asked slip)
+
+module _ (limit : ℕ) (slip : Slip) (lines : List Line) where
+  pub are-sound : soundLines limit slip lines ≡ true → SoundLines limit slip lines
+  unfolding soundLines
+  are-sound t =
+      let n : ℕ = asked slip in
+      let e = both _ (natAbs (slip .steps) + spans lines ≤? S n) t in
+      let d = both _ (nonNeg (slip .steps)) (e .0) in
+      let c = both _ (natAbs (slip .settled) + values lines ≤? factorial n) (d .0) in
+      let b = both (firstOf (pairChecks limit (slip .shape) (slip .class)) =? 0) (every (soundLine n) lines) (c .0) in
+      record {
+        words = eqb-true (firstOf (pairChecks limit (slip .shape) (slip .class))) 0 (b .0);
+        each = each-same _ (SoundLine n) lines (sound-line n) (every-each (soundLine n) lines (b .1));
+        value = leb-true _ (factorial n) (c .1);
+        forward = d .1;
+        span = leb-true _ (S n) (e .1);
+      }
+
+  pub sound-are : SoundLines limit slip lines → soundLines limit slip lines ≡ true
+  unfolding soundLines
+  sound-are s =
+      let n : ℕ = asked slip in
+      rw (
+        eq-eqb (firstOf (pairChecks limit (slip .shape) (slip .class))) 0 (s .words),
+        each-every (soundLine n) lines (each-same (SoundLine n) _ lines (λ l. line-sound) (s .each)),
+        le-leb _ (factorial n) (s .value),
+        s .forward,
+        le-leb _ (S n) (s .span),
+      )
+
+-- ---- slip and page
+-- words that are 0
+pub all-zero : (xs : List ℕ) → every (_=? 0) xs ≡ true → Each (λ x. x ≡ 0) xs
+all-zero xs t = each-same _ (λ x. x ≡ 0) xs (λ x. eqb-true x 0) (every-each (_=? 0) xs t)
+
+pub zero-all : (xs : List ℕ) → Each (λ x. x ≡ 0) xs → every (_=? 0) xs ≡ true
+zero-all xs e = each-every (_=? 0) xs (each-same (λ x. x ≡ 0) _ xs (λ x. eq-eqb x 0) e)
+
+pub record Sound (limit : ℕ) (slip : Slip) (page : List ℕ) : Type 0 where
+  pub fit : slip .lines ≤ length page
+  pub zeros : Each (λ x. x ≡ 0) (drop (slip .lines) page)
+  pub lines : SoundLines limit slip (waiting slip page)
+
+module _ (limit : ℕ) (slip : Slip) (page : List ℕ) where
+  pub is-sound : sound limit slip page ≡ true → Sound limit slip page
+  unfolding sound
+  is-sound t =
+      let c = both _ (soundLines limit slip (waiting slip page)) t in
+      let b = both (slip .lines ≤? length page) (every (_=? 0) (drop (slip .lines) page)) (c .0) in
+      record {
+        fit = leb-true (slip .lines) (length page) (b .0);
+        zeros = all-zero (drop (slip .lines) page) (b .1);
+        lines = are-sound limit slip (waiting slip page) (c .1);
+      }
+
+  pub sound-is : Sound limit slip page → sound limit slip page ≡ true
+  unfolding sound
+  sound-is s = rw (
+    le-leb (slip .lines) (length page) (s .fit),
+    zero-all (drop (slip .lines) page) (s .zeros),
+    sound-are limit slip (waiting slip page) (s .lines),
+  )
+
+  -- what it tells that 6 and 7 do not refuse
+  pub page-passed : firstOf (pageChecks limit slip page) ≡ 0 → (length page ≤ pageLimit) × Sound limit slip page
+  page-passed none =
+      let (short, (passes, _)) = none-applies (pageChecks limit slip page) refl none in
+      (ltb-false pageLimit (length page) short, is-sound (not-false (sound limit slip page) passes))

@@ -1,0 +1,157 @@
+-- The text of a session is read as that session, and none of its lines is at fault.
+use mathlib.Core.Path.{_≡_, refl, sym, _∙_, ap}
+use mathlib.Core.Bool.{false≢true}
+use Prim.Native.Nat.{_<_}
+use native.Mathlib.Omega.{arith}
+use lib.ListN.{length-map}
+use lib.Signed.{nonNeg}
+use Rattle.theory.specs.Basics.{Bool, true, false, not, List, [], _∷_, _++_, map, length, ℕ, _^_, ℤ, pos, negsuc}
+use Rattle.theory.specs.Basics.{natAbs, _=?_, every}
+use Rattle.theory.specs.Basics.Laws.{Each, each-append, each-map}
+use Rattle.theory.specs.Partition.{Parts, degree}
+use Rattle.theory.specs.Digits.{width}
+use Rattle.theory.specs.ShapeWord.{shapeOf}
+use Rattle.theory.specs.ShapeWord.Good.{shape-good}
+use Rattle.theory.specs.ShapeWord.Words.{shape-back}
+use Rattle.theory.specs.ClassWord.{classOf}
+use Rattle.text.specs.Text.{Text, ascii, decimal, integer, listText, textLine, field}
+use Rattle.text.specs.Reading.{linesOf}
+use Rattle.text.specs.Reading.Bytes.{Without, without, each-not, decimal-within, integer-within, list-within}
+use Rattle.text.specs.Reading.Lines.{Line, text-line, lines-joined}
+use Rattle.pages.specs.Line.{Line as Waits}
+use Rattle.pages.specs.declared.Slip.{Slip}
+use Rattle.sessiontext.specs.SessionText.{signText, waitingText, lineText, sessionLines, sessionText}
+use Rattle.sessiontext.specs.SessionText.Storable.{StorableLine, Storable}
+use Rattle.sessiontext.specs.Reading.{lineIn, fault, slipIn, linesIn}
+use Rattle.sessiontext.specs.Reading.Forms.{InLimit, Waiting, Formed, no-fault}
+use Rattle.sessiontext.specs.Reading.Fields.{number-line, number-formed, settled-line, settled-formed}
+use Rattle.sessiontext.specs.Reading.Fields.{list-line, list-formed, shape-in, class-in, class-same}
+use Rattle.sessiontext.specs.Reading.Fields.{line-formed, line-same}
+
+-- ---- the lines of the text
+plain-list : (ps : Parts) → Without 10 (listText ps)
+plain-list ps = without 44 57 10 (listText ps) (λ x l h e. omega arith) (list-within ps)
+
+plain-number : (n : ℕ) → Without 10 (decimal n)
+plain-number n = without 48 57 10 (decimal n) (λ x l h e. omega arith) (decimal-within n)
+
+plain-sign : (minus : Bool) → Without 10 (signText minus)
+plain-sign true = (refl, tt)
+plain-sign false = (refl, tt)
+
+-- a name that is written out, and a text without newlines
+named : (name t : Text) → every (λ b. not (b =? 10)) name ≡ true → Without 10 t → Line (textLine name t)
+named name t e w = text-line name t (each-not (_=? 10) name e) w
+
+pub waiting-line : (minus : Bool) (shape class : Parts) → Line (waitingText minus shape class)
+unfolding waitingText
+waiting-line minus shape class =
+    let first : Text = signText minus ++ ascii ";" in
+    let second : Text = first ++ listText shape ++ ascii ";" in
+    let a = each-append _ (signText minus) (ascii ";") (plain-sign minus) (refl, tt) in
+    let b = each-append _ first (listText shape) a (plain-list shape) in
+    let c = each-append _ (first ++ listText shape) (ascii ";") b (refl, tt) in
+    named (ascii "line=") (second ++ listText class) refl (each-append _ second (listText class) c (plain-list class))
+
+waiting-lines : (lines : List Waits) → Each Line (map lineText lines)
+waiting-lines [] = tt
+waiting-lines (l ∷ lines) =
+    (waiting-line (not (nonNeg (l .weight))) (shapeOf (l .shape)) (classOf (l .class)), waiting-lines lines)
+
+module _ (slip : Slip) (lines : List Waits) where
+  abbrev shape : Parts
+  shape = shapeOf (slip .shape)
+
+  abbrev class : Parts
+  class = classOf (slip .class)
+
+  line-1 : Line (field "degree=" (decimal (degree shape)))
+  line-1 = named (ascii "degree=") (decimal (degree shape)) refl (plain-number _)
+
+  line-2 : Line (field "shape=" (listText shape))
+  line-2 = named (ascii "shape=") (listText shape) refl (plain-list shape)
+
+  line-3 : Line (field "class=" (listText class))
+  line-3 = named (ascii "class=") (listText class) refl (plain-list class)
+
+  line-4 : Line (field "steps=" (decimal (natAbs (slip .steps))))
+  line-4 = named (ascii "steps=") (decimal (natAbs (slip .steps))) refl (plain-number _)
+
+  line-5 : Line (field "settled=" (integer (slip .settled)))
+  line-5 =
+      let z = slip .settled in
+      let plain = without 45 57 10 (integer z) (λ x l h e. omega arith) (integer-within z) in
+      named (ascii "settled=") (integer z) refl plain
+
+  line-6 : Line (field "lines=" (decimal (length lines)))
+  line-6 = named (ascii "lines=") (decimal (length lines)) refl (plain-number _)
+
+  session-line : Each Line (sessionLines slip lines)
+  unfolding sessionLines
+  session-line = (line-1, (line-2, (line-3, (line-4, (line-5, (line-6, waiting-lines lines))))))
+
+lines-read : (slip : Slip) (lines : List Waits) → linesOf (sessionText slip lines) ≡ sessionLines slip lines
+unfolding sessionText
+lines-read slip lines = lines-joined (sessionLines slip lines) (session-line slip lines)
+
+-- ---- what they are read as
+pub forward-same : (z : ℤ) → nonNeg z ≡ true → pos (natAbs z) ≡ z
+forward-same (pos n) e = refl
+forward-same (negsuc n) e = absurd (false≢true e)
+
+module _ (limit : ℕ) (room : limit < width) where
+  all-formed : (lines : List Waits) → Each (StorableLine limit) lines → Each (Waiting limit) (map lineText lines)
+  all-formed lines e = each-map (StorableLine limit) (Waiting limit) lineText lines (λ x. line-formed limit room) e
+
+  all-same : (lines : List Waits) → Each (StorableLine limit) lines → map lineIn (map lineText lines) ≡ lines
+  all-same [] e = refl
+  all-same (x ∷ lines) e = rw (line-same limit room (e .0), all-same lines (e .1))
+
+  module _ {slip : Slip} {lines : List Waits} (s : Storable limit slip lines) where
+    its-shape : InLimit limit (shapeOf (slip .shape))
+    its-shape = shape-in limit room (s .shape)
+
+    its-class : InLimit limit (classOf (slip .class))
+    its-class = class-in limit room (s .class)
+
+    session-formed : Formed limit (sessionText slip lines)
+    unfolding sessionLines
+    session-formed =
+        let e = lines-read slip lines in
+        record {
+          degree-line =
+              rw e (number-formed (ascii "degree=") refl _ (2 ^ 64) (omega (arith, its-shape .small)) (omega arith));
+          degrees =
+              rw e
+              (number-line (ascii "degree=") refl _ (omega (arith, its-shape .small))
+              ∙ ap degree (sym (list-line limit room (ascii "shape=") refl refl its-shape)));
+          shape = rw e (list-formed limit room (ascii "shape=") refl refl its-shape);
+          class = rw e (list-formed limit room (ascii "class=") refl refl its-class);
+          steps = rw e (number-formed (ascii "steps=") refl _ (2 ^ 63) (s .steps .small) (omega arith));
+          settled = rw e (settled-formed (slip .settled) (s .settled));
+          count = rw e (ap (λ n. field "lines=" (decimal n)) (sym (length-map lines lineText)));
+          lines = rw e (all-formed lines (s .each));
+        }
+
+    pub text-faultless : fault limit (sessionText slip lines) ≡ 0
+    text-faultless = no-fault limit (sessionText slip lines) session-formed
+
+    pub slip-back : slipIn (sessionText slip lines) ≡ slip
+    unfolding slipIn sessionLines
+    slip-back =
+        rw (
+          lines-read slip lines,
+          list-line limit room (ascii "shape=") refl refl its-shape,
+          list-line limit room (ascii "class=") refl refl its-class,
+          shape-back (slip .shape) (shape-good (s .shape .good)),
+          class-same limit room (s .class),
+          settled-line (slip .settled) (s .settled),
+          number-line (ascii "steps=") refl (natAbs (slip .steps)) (omega (arith, s .steps .small)),
+          forward-same (slip .steps) (s .steps .forward),
+          length-map,
+          ← s .count,
+        ) refl
+
+    pub lines-back : linesIn (sessionText slip lines) ≡ lines
+    unfolding linesIn sessionLines
+    lines-back = rw (lines-read slip lines) (all-same lines (s .each))

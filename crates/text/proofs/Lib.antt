@@ -1,0 +1,5 @@
+-- Laws that several proofs use, and the theorems that no second outcome meets a contract.
+mod ListLoops
+mod Newlines
+mod Pieces
+pub mod Unique

@@ -1,0 +1,68 @@
+// How the calls' answers are handed over to C, and a slip is taken from it.
+ghost use mathlib.Core.Path.{_≡_};
+ghost use Rattle.zembrusha.specs.Exports.{ofWord, ofCount, given, slipOver, handedOver, loadedOver};
+use super::Handed;
+use super::Loaded;
+use super::Number;
+use super::Slip;
+
+pub fn of_word(answer: words::WordAnswer) -> Number
+    ensures { λ r. ⌜ r ≡ ofWord answer ⌝ }
+{
+    Number {
+        refused: answer.refused as u32,
+        number: answer.word as u64,
+    }
+}
+
+pub fn of_count(answer: words::CountAnswer) -> Number
+    ensures { λ r. ⌜ r ≡ ofCount answer ⌝ }
+{
+    Number {
+        refused: answer.refused as u32,
+        number: answer.count as u64,
+    }
+}
+
+pub fn slip_in(slip: Slip) -> pages::Slip
+    ensures { λ r. ⌜ r ≡ given slip ⌝ }
+{
+    pages::Slip {
+        shape: slip.shape,
+        class: slip.class_word,
+        settled: slip.settled,
+        lines: slip.lines as usize,
+        steps: slip.steps,
+    }
+}
+
+fn slip_over(slip: pages::Slip) -> Slip
+    ensures { λ r. ⌜ r ≡ slipOver slip ⌝ }
+{
+    Slip {
+        shape: slip.shape,
+        class_word: slip.class,
+        settled: slip.settled,
+        lines: slip.lines as u64,
+        steps: slip.steps,
+    }
+}
+
+pub fn slip_out(refused: u8, slip: pages::Slip) -> Handed
+    ensures { λ r. ⌜ r ≡ handedOver refused slip ⌝ }
+{
+    Handed {
+        refused: refused as u32,
+        slip: slip_over(slip),
+    }
+}
+
+pub fn of_load(refused: u8, line: usize, slip: pages::Slip) -> Loaded
+    ensures { λ r. ⌜ r ≡ loadedOver refused line slip ⌝ }
+{
+    Loaded {
+        refused: refused as u32,
+        line: line as u64,
+        slip: slip_over(slip),
+    }
+}

@@ -1,0 +1,267 @@
+#!/usr/bin/env python3
+"""storing.py PROGRAM FAILING: sessions put away in files and taken up by another run of the window; texts that are
+refused; files that the system will not read or write, and what is left of them. FAILING is the window linked with
+failing.c. All files are in a temporary folder; where this runs as root, the window runs as somebody with fewer rights."""
+import errno
+import os
+import resource
+import shutil
+import signal
+import stat
+import subprocess
+import sys
+import tempfile
+
+NOBODY = 65534
+
+# A session by its commands, and its text after two of them: that of the request.
+COMMANDS = ['open 4,2,1 2,2,1,1,1', 'strike 0 1', 'strike 1 2', 'strike 0 2', 'watch', 'strike 2 1', 'strike 0 1',
+            'strike 0 2', 'watch']
+BEGUN = ['open 3,2 3,2', 'strike 0 3']
+TEXT = 'degree=5\nshape=3,2\nclass=3,2\nsteps=1\nsettled=0\nlines=1\nline=-;1,1;2\n'
+OLD = 'what was there before\n'
+
+# What each line of a text has to be, as the window says it.
+FORMS = ["degree= and the shape's degree, without needless zeros", 'shape= and a partition of at most 16, as shape=3,2',
+         'class= and a partition of at most 16, as class=3,2', 'steps= and a number below 2^63, without needless zeros',
+         'settled= and a number of 64 bits, without needless zeros and with a minus only where it is negative', 'lines= and the number of all lines after it, without needless zeros',
+         'line=, sign, and shape and class, partitions of at most 16, as line=-;1,1;2']
+
+
+def changed(old, new):
+    """The text with something changed in one place."""
+    before, after = TEXT.split(old)
+    return before + new + after
+
+
+def page_of(lines, count=None):
+    """A text of degree 16 with so many waiting lines of degree 1."""
+    head = 'degree=16\nshape=16\nclass=16\nsteps=0\nsettled=0\nlines=%d\n' % (lines if count is None else count)
+    return head + 'line=+;1;1\n' * lines
+
+
+# Texts that are refused: by 16 at this line, or by 10 or 7.
+BAD_TEXTS = {
+    1: ['', '\n', 'degree=5', TEXT.replace('\n', '\r\n'), '\ufeff' + TEXT, changed('degree=5', 'degree=05'),
+        changed('degree=5', 'degree=6'), 'x' * 3_000_000, '\n' * 3_000_000, TEXT[1:]],
+    2: [changed('shape=3,2', 'shape=2,3'), changed('shape=3,2', 'shape=17'), 'degree=5\nshape=3,2'],
+    3: [changed('class=3,2', 'class=3,2,'), changed('class=3,2', 'class=9,8')],
+    4: ['degree=5\nshape=3,2\nclass=3,2\n', changed('steps=1', 'steps=9223372036854775808')],
+    5: [changed('settled=0', 'settled=-0'), changed('settled=0', 'settled=+1')],
+    6: [changed('lines=1', 'lines=0'), changed('lines=1', 'lines=2'), TEXT + '\n', page_of(4096, 4095)],
+    7: [changed('line=-', 'line='), changed(';2\n', ';2'), changed(';1,1', ';1, 1')],
+    8: [TEXT.replace('lines=1', 'lines=2') + 'line=-;1,1;2'],
+}
+TOO_MANY = [page_of(4097), page_of(200_000)]
+NOT_SOUND = [changed('line=-;1,1;2', 'line=+;;'), changed('settled=0', 'settled=120'), changed('steps=1', 'steps=207'),
+             changed('class=3,2', 'class=3,1'), changed(';2\n', ';3\n')]
+
+# The calls that fail in a save and in a load, and how.
+SAVE_FAILURES = {'malloc': errno.ENOMEM, 'realpath': errno.EIO, 'mkstemp': errno.ENOSPC, 'write': errno.ENOSPC,
+                 'fchmod': errno.EPERM, 'fsync': errno.EIO, 'close': errno.EDQUOT, 'rename': errno.EBUSY}
+LOAD_FAILURES = {'fstat': errno.EIO, 'realloc': errno.ENOMEM, 'read': errno.EIO}
+
+
+def lower_rights():
+    """Those of nobody, where this runs as root and may give its own up."""
+    rights = {'user': NOBODY, 'group': NOBODY, 'extra_groups': []}
+    try:
+        if os.geteuid() == 0 and subprocess.run(['true'], **rights).returncode == 0:
+            return rights
+    except PermissionError:
+        pass
+    return {}
+
+
+class Desk:
+    """A folder of its own, in which the window is run."""
+
+    def __init__(self, folder, program, failing):
+        self.folder, self.rights = folder, lower_rights()
+        self.program, self.failing = (self.copied(path) for path in (program, failing))
+        self.desk = self.path('desk')
+        os.mkdir(self.desk)
+        self.give(self.desk)
+        os.chmod(folder, 0o755)
+
+    def give(self, path):
+        """Gives a file or a folder to whoever runs the window."""
+        if self.rights:
+            os.chown(path, NOBODY, NOBODY)
+
+    def path(self, *names):
+        return os.path.join(self.folder, *names)
+
+    def copied(self, program):
+        """A copy that everybody may run."""
+        copy = self.path(os.path.basename(program))
+        shutil.copyfile(program, copy)
+        os.chmod(copy, 0o755)
+        return copy
+
+    def answers(self, commands, program=None, **more):
+        """The lines that the window answers."""
+        script = ''.join(command + '\n' for command in commands).encode()
+        run = subprocess.run([program or self.program], input=script, capture_output=True, cwd=self.desk, timeout=100,
+                             **self.rights, **more)
+        if run.returncode != 0 or run.stderr:
+            sys.exit(f'storing: {commands} gives status {run.returncode}: {run.stderr[-2000:]}')
+        return run.stdout.decode().splitlines()
+
+    def after(self, begun, commands, **more):
+        """What is answered to commands after those with which a session has begun."""
+        return self.answers([*begun, *commands], **more)[len(self.answers(begun)):]
+
+    def write(self, name, text):
+        """A file that belongs to whoever runs the window."""
+        path = self.path('desk', name)
+        with open(path, 'w', encoding='utf-8', newline='') as file:
+            file.write(text)
+        self.give(path)
+        return path
+
+    def read(self, name):
+        with open(self.path('desk', name), encoding='utf-8', newline='') as file:
+            return file.read()
+
+    def files(self):
+        return sorted(os.listdir(self.desk))
+
+    def clear(self):
+        shutil.rmtree(self.desk)
+        os.mkdir(self.desk)
+        self.give(self.desk)
+
+
+def same(answer, expected, what):
+    if answer != expected:
+        sys.exit(f'storing: {what}: {answer!r}, and not {expected!r}')
+
+
+def take_up(desk):
+    """A session that is put away anywhere and taken up by another run goes on as the one that was not."""
+    for cut in range(1, len(COMMANDS)):
+        begun, left = COMMANDS[:cut], COMMANDS[cut:]
+        stands = desk.after(begun, ['lines'])
+        same(desk.after(begun, ['save friday']), ['saved friday', *stands], f'a save after {begun}')
+        unbroken = [line.replace('the opening', 'the load') for line in desk.after(begun, left)]
+        same(desk.answers(['load friday', *left]), ['loaded friday', *stands, *unbroken], f'a load before {left}')
+    same(desk.files(), ['friday'], 'files after saves')
+    desk.answers([*BEGUN, 'save friday'])
+    same(desk.read('friday'), TEXT, 'the text')
+
+
+def put_in_place(desk):
+    """What a save leaves: the new text, the old permissions, links that are links, and no other file."""
+    desk.answers([*BEGUN, 'save new'], umask=0o027)
+    same(stat.S_IMODE(os.stat(desk.path('desk', 'new')).st_mode), 0o640, 'permissions of a new file')
+    os.chmod(desk.write('old', OLD * 100), 0o604)
+    os.mkdir(desk.path('desk', 'folder'))
+    os.symlink('../old', desk.path('desk', 'folder', 'link'))
+    desk.answers([*BEGUN, 'save folder/link'])
+    same(desk.read('old'), TEXT, 'the text behind a link')
+    same(stat.S_IMODE(os.stat(desk.path('desk', 'old')).st_mode), 0o604, 'permissions of an old file')
+    same(os.path.islink(desk.path('desk', 'folder', 'link')), True, 'the link')
+    names = ['b c', 'ä', 'x' * 255]
+    for name in names:
+        same(desk.after(BEGUN, [f'save  {name} \t'])[0], f'saved {name}', 'a name')
+    same(desk.after(BEGUN, ['save d\x1b[2J\x7f'])[0], 'saved d?[2J?', 'a name that a terminal would obey')
+    same(desk.files(), sorted([*names, 'd\x1b[2J\x7f', 'folder', 'new', 'old']), 'files')
+    same(os.listdir(desk.path('desk', 'folder')), ['link'], 'files in the folder')
+
+
+def refuse_texts(desk):
+    """A refused load shows number, line and reason, and the session stays as it was, page and display."""
+    stands = desk.after(BEGUN, ['lines', 'watch'])
+    form = 'refused 16: the text is not of its form: line %d is not %s, and a newline'
+    cases = [(form % (line, FORMS[min(line, 7) - 1]), text) for line, texts in BAD_TEXTS.items() for text in texts]
+    cases += [('refused 10: the page has no room for so many lines', text) for text in TOO_MANY]
+    cases += [('refused 7: slip and page are not sound', text) for text in NOT_SOUND]
+    for refusal, text in cases:
+        desk.write('friday', text)
+        same(desk.after(BEGUN, ['load friday', 'watch']), [refusal, *stands], f'a load of {text[:200]!r}')
+        same(desk.answers(['load friday']), [refusal, 'nothing is open'], f'a load of {text[:200]!r}')
+        same(desk.read('friday'), text, 'the text that is refused')
+    desk.write('friday', page_of(4096))
+    same(len(desk.answers(['load friday'])), 3 + 4096, 'lines shown of a full page')
+
+
+def take_up_others(desk):
+    """A text that somebody changed is taken up where it is sound, and is not taken for a session of ours."""
+    desk.write('friday', changed('settled=0', 'settled=5'))
+    same(desk.answers(['load friday', 'strike 0 2']),
+         ['loaded friday', 'this session began with no opening: settled plus waiting is 6, the character is 1',
+          '(3,2) on (3,2): settled 5, steps 1 of at most 206', 'line 0: - (1,1) on (2), strike 2',
+          '(3,2) on (3,2): settled 6, steps 2 of at most 206', 'no line waits: settled is 6, the character is 1'],
+         'a text that was changed')
+
+
+def refused_by_system(desk, command, words, **more):
+    """A save or a load that the system refuses: it says so, the session goes on, and all files are as they were."""
+    before = [(name, os.lstat(desk.path('desk', name))) for name in desk.files()]
+    verb, name = command.split(' ', 1)
+    done = {'save': 'saved', 'load': 'loaded'}[verb]
+    expected = [f'not {done}: {name}: {words}', *desk.after(BEGUN, ['lines', 'strike 0 2'])]
+    same(desk.after(BEGUN, [command, 'strike 0 2'], **more), expected, f'{command} with {more}')
+    found = [(name, os.lstat(desk.path('desk', name))) for name in desk.files()]
+    same([(name, kept.st_ino, kept.st_size, kept.st_mtime_ns) for name, kept in found],
+         [(name, kept.st_ino, kept.st_size, kept.st_mtime_ns) for name, kept in before], f'files after {command}')
+
+
+def refuse_files(desk):
+    """Files that are not there, are none, or may not be read or written."""
+    os.chmod(desk.write('read only', OLD), 0o444)
+    os.chmod(desk.write('write only', OLD), 0o222)
+    os.mkfifo(desk.path('desk', 'pipe'))
+    os.symlink('loop', desk.path('desk', 'loop'))
+    os.mkdir(desk.path('desk', 'folder'))
+    os.mkdir(desk.path('desk', 'locked'))
+    os.chmod(desk.path('desk', 'locked'), 0o555)
+    refusals = {
+        'load friday': errno.ENOENT, 'load folder/friday': errno.ENOENT, 'save no folder/friday': errno.ENOENT,
+        'load folder': errno.EISDIR, 'save folder': errno.EISDIR, 'save folder/': errno.EISDIR, 'save /': errno.EISDIR,
+        'load read only/friday': errno.ENOTDIR, 'save read only/friday': errno.ENOTDIR,
+        'load loop': errno.ELOOP, 'save loop': errno.ELOOP,
+        'load ' + 'x' * 256: errno.ENAMETOOLONG, 'save ' + 'x' * 256: errno.ENAMETOOLONG}
+    for command, number in refusals.items():
+        refused_by_system(desk, command, os.strerror(number))
+    for command in ['load pipe', 'save pipe']:
+        refused_by_system(desk, command, 'Not a regular file')
+    if desk.rights or os.geteuid() != 0:
+        for command in ['load write only', 'save read only', 'save locked/friday']:
+            refused_by_system(desk, command, os.strerror(errno.EACCES))
+
+
+def full_disk():
+    """No file gets longer than ten bytes."""
+    signal.signal(signal.SIGXFSZ, signal.SIG_IGN)
+    resource.setrlimit(resource.RLIMIT_FSIZE, (10, 10))
+
+
+def fail(desk):
+    """The system fails in the middle: what was there before is there, and nothing else."""
+    desk.write('friday', OLD)
+    words = os.strerror(errno.EFBIG)
+    for name in ['friday', 'monday']:
+        refused_by_system(desk, f'save {name}', words, preexec_fn=full_disk)
+    for verb, failures in [('save', SAVE_FAILURES), ('load', LOAD_FAILURES)]:
+        for call, number in failures.items():
+            failing = {'program': desk.failing, 'env': {'FAIL': call, 'FAIL_NUMBER': str(number)}}
+            refused_by_system(desk, f'{verb} friday', os.strerror(number), **failing)
+    same(desk.read('friday'), OLD, 'the old file')
+    slow = {'program': desk.failing, 'env': {'FAIL': 'slow'}}
+    desk.answers([*BEGUN, 'save friday'], **slow)
+    same(desk.read('friday'), TEXT, 'a text that is written three bytes at a time')
+    same(desk.answers(['load friday'], **slow)[0], 'loaded friday', 'a text that is read three bytes at a time')
+
+
+def main():
+    program, failing = sys.argv[1:]
+    with tempfile.TemporaryDirectory() as folder:
+        desk = Desk(folder, program, failing)
+        for part in [take_up, put_in_place, refuse_texts, take_up_others, refuse_files, fail]:
+            part(desk)
+            desk.clear()
+
+
+main()

@@ -6,7 +6,7 @@ slips, pages and watches from the text of document 01."""
 from collections import Counter
 from functools import lru_cache
 from itertools import groupby
-from math import factorial, perm, prod
+from math import factorial, lcm, perm
 
 LIMIT, PAGE = 16, 4096  # the largest degree, the longest page
 
@@ -78,8 +78,8 @@ def class_size(c):
 
 
 def period(c):
-    """The product of the different part lengths."""
-    return prod(set(c))
+    """The least positive number that every part divides: Python's own."""
+    return lcm(*c)
 
 
 @lru_cache(None)

@@ -280,13 +280,13 @@ def classes_read(n, seed):
 
 @notion(least=LIMIT)
 def class_sizes(n, seed):
-    """Sizes and periods of classes; n!, S(n), the number of partitions."""
+    """Sizes of classes, and periods as `period-computed` says they are; n!, S(n), the number of partitions."""
     yield 'factorial %d' % n, nat(factorial(n))
     yield 'getD partitionCounts %d 0' % n, nat(len(partitions(n)))
     yield 'S %d' % n, nat(most_steps(n))
     for p in partitions(n):
         yield 'classSize ' + nats(p), nat(class_size(p))
-        yield 'period ' + nats(p), nat(period(p))
+        yield 'periodFrom 1 ' + nats(p), nat(period(p))
 
 
 @notion(least=LIMIT)
@@ -391,7 +391,12 @@ def numbers_answered(n, seed):
         yield call('classDegree', nat(w)), number_answer(m, sum(c))
         yield call('signOfClass', nat(w)), number_answer(m, (-1)**(sum(c) - len(c)))
         yield call('sizeOfClass', nat(w)), number_answer(m, 0 if m else class_size(c))
-        yield call('periodOfClass', nat(w)), number_answer(m, period(c))
+        yield period_told(w), number_answer(m, period(c))
+
+
+def period_told(w):
+    """The answer of which `period-told` says that it is promised."""
+    return 'numbered (classChecks degreeLimit %s) (pos (periodFrom 1 (classOf %s)))' % (nat(w), nat(w))
 
 
 def number_answer(k, z):
@@ -552,6 +557,7 @@ def loads(n, seed):
 CONSTRUCTORS = {
     'Rattle.theory.specs.Basics': 'Bool true false List [] _∷_ _++_ replicate getD ℕ ℤ pos negsuc'.split(),
     'Rattle.theory.specs.Hooks': ['Hook'],
+    'Rattle.theory.specs.ClassData.Periods': ['periodFrom'],
     'Rattle.words.specs.declared.CountAnswer': ['CountAnswer'],
     'Rattle.pages.specs.declared.Slip': ['Slip'],
     'Rattle.pages.specs.Line': ['Line'],

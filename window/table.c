@@ -20,10 +20,11 @@ void show_character(uint32_t shape, uint32_t class)
            zembrusha_character(shape, class));
 }
 
-/* How a table is laid out: the width of the classes, of their sizes, and of the column of each shape. */
+/* How a table is laid out: the width of the classes, of their sizes and periods, and of the column of each shape. */
 struct layout {
     int classes;
     int sizes;
+    int periods;
     int shapes[ZEMBRUSHA_LONGEST_COLUMN];
 };
 
@@ -35,8 +36,8 @@ static int width(int64_t number, const char *heading)
     return figures > letters ? figures : letters;
 }
 
-/* The layout for a degree. No class is larger than n!, and no character is larger in size than the shape's character
- * degree, which stands in the column of the class (1^n). */
+/* The layout for a degree. No class is larger than n!, no period has more figures than its heading has letters, and no
+ * character is larger in size than the shape's character degree, which stands in the column of the class (1^n). */
 static struct layout table_layout(uint64_t degree)
 {
     struct layout layout;
@@ -52,6 +53,7 @@ static struct layout table_layout(uint64_t degree)
     int heading = (int)strlen("class");
     layout.classes = letters > heading ? letters : heading;
     layout.sizes = 2 + width(factorial, "size");
+    layout.periods = 2 + (int)strlen("period");
     struct partition rows = first_partition(degree);
     size_t rank = 0;
     do {
@@ -66,15 +68,15 @@ static void show_heading(uint64_t degree, const struct layout *layout)
 {
     struct partition rows = first_partition(degree);
     size_t rank = 0;
-    printf("%-*s%*s", layout->classes, "class", layout->sizes, "size");
+    printf("%-*s%*s%*s", layout->classes, "class", layout->sizes, "size", layout->periods, "period");
     do {
         printf("%*s", layout->shapes[rank++], partition_text(&rows).text);
     } while (next_partition(&rows));
     printf("\n");
 }
 
-/* The character table of a degree: a row to a class, with its size, and a column to a shape, both in decreasing
- * lexicographic order. */
+/* The character table of a degree: a row to a class, with its size and period, and a column to a shape, both in
+ * decreasing lexicographic order. */
 void show_table(uint64_t degree)
 {
     struct layout layout = table_layout(degree);
@@ -86,6 +88,7 @@ void show_table(uint64_t degree)
         uint64_t count = zembrusha_column(class, values, ZEMBRUSHA_LONGEST_COLUMN).number;
         printf("%-*s", layout.classes, partition_text(&cycles).text);
         printf("%*" PRId64, layout.sizes, zembrusha_class_size(class));
+        printf("%*" PRId64, layout.periods, zembrusha_class_period(class));
         for (size_t rank = 0; rank < count; rank++) {
             printf("%*" PRId64, layout.shapes[rank], values[rank]);
         }

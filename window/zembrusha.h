@@ -121,7 +121,8 @@ int64_t zembrusha_class_size(uint32_t class);
 /* Why zembrusha_class_size refuses this word, or 0. */
 uint32_t zembrusha_class_size_refusal(uint32_t class);
 
-/* The period of a class: the product of its different part lengths. Refuses 3, 4. */
+/* The period of a class: the least positive number that every part divides. An element of the class, repeated, is first
+ * back after so many times. That of the empty class is 1. Refuses 3, 4. */
 int64_t zembrusha_class_period(uint32_t class);
 
 /* Why zembrusha_class_period refuses this word, or 0. */

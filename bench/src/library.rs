@@ -35,6 +35,7 @@ extern "C" {
     fn zembrusha_load(text: *const u8, length: usize, page: *mut u64, words: usize) -> Loaded;
     fn zembrusha_column(class: u32, values: *mut i64, length: usize) -> Number;
     fn zembrusha_character(shape: u32, class: u32) -> i64;
+    fn zembrusha_class_period(class: u32) -> i64;
 }
 
 pub fn column(class: u32, values: &mut [i64]) -> usize {
@@ -43,6 +44,10 @@ pub fn column(class: u32, values: &mut [i64]) -> usize {
 
 pub fn character(shape: u32, class: u32) -> i64 {
     unsafe { zembrusha_character(shape, class) }
+}
+
+pub fn class_period(class: u32) -> i64 {
+    unsafe { zembrusha_class_period(class) }
 }
 
 pub fn step(slip: Slip, page: &mut [u64], line: u64, cycle: u64) -> (u32, Slip) {

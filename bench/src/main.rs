@@ -1,5 +1,6 @@
 // Times of the library beside its peers, in one run on one machine. `bench/run` builds and starts it.
 mod library;
+mod periods;
 mod sessions;
 mod soundness;
 mod storing;
@@ -124,6 +125,8 @@ fn main() {
     let symmetrica = peer(&format!("{peers}/../target/symmetrica"), &[]);
     whole_tables(&gap, &symmetrica);
     single_characters(&symmetrica);
+    let words: Vec<u32> = (0..=16).flat_map(|n| partitions(n, n)).map(|parts| class_word(&parts)).collect();
+    periods::times(|runs, work| best(runs, work), &words);
     sessions::times(|runs, work| best(runs, work), shape_word, class_word);
     let eights = partitions(8, 8);
     let shapes: Vec<u32> = eights.iter().map(|parts| shape_word(parts)).collect();

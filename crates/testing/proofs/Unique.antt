@@ -3,7 +3,6 @@ use mathlib.Core.Path.{_≡_, sym, _∙_}
 use Rattle.testing.proofs.Tally.new.Reads as new-reads
 use Rattle.testing.proofs.Tally.add.Reads as add-reads
 use Rattle.testing.proofs.numbers.natural.Reads as natural-reads
-use Rattle.testing.proofs.numbers.times.Reads as times-reads
 use Rattle.testing.proofs.numbers.factorial.Reads as factorial-reads
 use Rattle.testing.proofs.numbers.sum.Reads as sum-reads
 
@@ -16,10 +15,6 @@ add-once κs a r r′ s s′ p q = p ∙ sym q
 pub natural-once : (κs : _) (a : _) (r r′ : _) (s s′ : _)
     → natural-reads.Post κs a r s → natural-reads.Post κs a r′ s′ → r ≡ r′
 natural-once κs a r r′ s s′ p q = p ∙ sym q
-
-pub times-once : (κs : _) (a : _) (r r′ : _) (s s′ : _)
-    → times-reads.Post κs a r s → times-reads.Post κs a r′ s′ → r ≡ r′
-times-once κs a r r′ s s′ p q = p ∙ sym q
 
 pub factorial-once : (κs : _) (a : _) (r r′ : _) (s s′ : _)
     → factorial-reads.Post κs a r s → factorial-reads.Post κs a r′ s′ → r ≡ r′

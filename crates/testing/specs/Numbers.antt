@@ -1,19 +1,15 @@
 -- Whole numbers with room, as the test programs compute them.
 --   naturalOf z       z, and 0 where it is negative
---   timesOf m n       m times n, and 0 where m is 2^56 or more
 --   factorialOf n     n!, and 0 where n is above 20
 --   hasRoom z         z lies between -2^62 and 2^62
 --   sumOf x y         x + y, and 0 where one of them does not
-use Rattle.theory.specs.Basics.{Bool, _&&_, cond, ℕ, _*_, _^_, _<?_, ℤ, pos, negsuc, _+ℤ_, natAbs}
+use Rattle.theory.specs.Basics.{Bool, _&&_, cond, ℕ, _^_, _<?_, ℤ, pos, negsuc, _+ℤ_, natAbs}
 use Rattle.theory.specs.Bounds.{factorial}
 use Rattle.theory.specs.Bounds.Laws.{largestLimit}
 
 abbrev pub naturalOf : ℤ → ℕ
 naturalOf (pos n) = n
 naturalOf (negsuc n) = 0
-
-abbrev pub timesOf : ℕ → ℕ → ℕ
-timesOf m n = cond (m <? 2 ^ 56) (m * n) 0
 
 abbrev pub factorialOf : ℕ → ℕ
 factorialOf n = cond (largestLimit <? n) 0 (factorial n)

@@ -1,6 +1,6 @@
 // Whole numbers with room: where an answer would have none, it is 0.
 ghost use mathlib.Core.Path.{_≡_};
-ghost use Rattle.testing.specs.Numbers.{naturalOf, timesOf, factorialOf, hasRoom, sumOf};
+ghost use Rattle.testing.specs.Numbers.{naturalOf, factorialOf, hasRoom, sumOf};
 
 // The greatest number whose factorial has room in 64 bits.
 const MOST: u8 = 20;
@@ -15,17 +15,6 @@ pub fn natural(number: i64) -> u64
     ensures { λ r. ⌜ r ≡ naturalOf number ⌝ }
 {
     if number < 0 { 0 } else { number as u64 }
-}
-
-// A product, and 0 where it could be too large.
-pub fn times(product: u64, factor: u8) -> u64
-    ensures { λ r. ⌜ r ≡ timesOf product factor ⌝ }
-{
-    if product < 0x100_0000_0000_0000 {
-        product * factor as u64
-    } else {
-        0
-    }
 }
 
 // n!, and 0 above 20.

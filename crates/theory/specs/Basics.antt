@@ -1,6 +1,7 @@
 -- The few words that every file uses beside the library's.
 --   m =? n, m <? n, m ≤? n   tests of two numbers, true or false; odd n, whether n leaves 1 when it is halved
 --   keep test xs             the elements that pass the test, in their order; count, how many; every, whether all do
+--   Each P xs                P holds of each element of xs
 --   joined f xs              the lists f x, for each x of xs, one after the other
 --   total ns, product ns     of natural numbers; sum f xs, of f over xs, in ℤ; signed minus z, -z if minus and else z
 --   downFrom n               n, .., 1; upFrom i n, the n numbers i, i + 1, ..
@@ -40,6 +41,10 @@ count test xs = length (keep test xs)
 abbrev pub every : {A : Type 0} → (A → Bool) → List A → Bool
 every test [] = true
 every test (x ∷ xs) = test x && every test xs
+
+abbrev pub Each : {A : Type 0} → (A → Type 0) → List A → Type 0
+Each P [] = Unit {0}
+Each P (x ∷ xs) = P x × Each P xs
 
 abbrev pub joined : {A B : Type 0} → (A → List B) → List A → List B
 joined f [] = []

@@ -4,6 +4,7 @@ use denote.Ref.{now}
 use Rattle.theory.specs.Limits.{degreeLimit}
 use Rattle.words.specs.Answers.Laws.{one-outcome}
 use Rattle.words.specs.Calls.{shapePartsInto, classPartsInto}
+use Rattle.words.specs.Calls.Laws.{one-period-told}
 use Rattle.words.proofs.shapes.word.Reads as shape-word
 use Rattle.words.proofs.shapes.parts.Reads as shape-parts
 use Rattle.words.proofs.shapes.degree.Reads as shape-degree
@@ -55,4 +56,4 @@ class-size-once κs a r r′ s s′ p q = p ∙ sym q
 
 pub class-period-once : (κs : _) (a : _) (r r′ : _) (s s′ : _) → class-period.Post κs a r s
     → class-period.Post κs a r′ s′ → r ≡ r′
-class-period-once κs a r r′ s s′ p q = p ∙ sym q
+class-period-once κs a r r′ s s′ p q = one-period-told degreeLimit (a .0) p q

@@ -2,6 +2,7 @@
 -- to say").
 --   Outcome x answer run            a call that is promised the pair x gives this answer and leaves its lent run so
 --   worded checks w                 the word w, or the number that refuses beside 0; numbered checks z, the number z
+--   NumberedBy checks P answer      the answer gives a number of which P holds, or the number that refuses beside 0
 --   atFront xs column               xs at the front of a lent column, the rest of it stays
 --   written checks last xs column   xs at the front of a lent column, and their count; `last`, of both, is asked last
 use mathlib.Core.Path.{_≡_}
@@ -30,6 +31,11 @@ worded checks w = refusedOr (firstOf checks) (λ k. wordAnswer k 0) (wordAnswer 
 
 abbrev pub numbered : List Check → ℤ → NumberAnswer
 numbered checks z = refusedOr (firstOf checks) (λ k. numberAnswer k (pos 0)) (numberAnswer 0 z)
+
+pub record NumberedBy (checks : List Check) (P : ℕ → Type 0) (answer : NumberAnswer) : Type 0 where
+  pub number : ℕ
+  pub holds : firstOf checks ≡ 0 → P number
+  pub answers : answer ≡ numbered checks (pos number)
 
 abbrev pub atFront : {A : Type 0} → List A → List A → List A
 atFront xs column = xs ++ drop (length xs) column

@@ -1,12 +1,15 @@
--- What the calls on one partition promise (document 01, "Words", "The character", second paragraph, "Order").
+-- What the calls on one partition promise (document 01, "Words", "The character", second paragraph, "Order"; document
+-- 02, P2).
 -- Each has the name of what it gives; `Into` writes to the front of a lent column. The limit on degrees comes first.
+--   PeriodOfClass w answer   the answer gives the period of the class of the word w, or refuses
 use Rattle.theory.specs.Basics.{ℕ, pos}
 use Rattle.theory.specs.Partition.{Parts, degree}
 use Rattle.theory.specs.ShapeWord.{shapeWord, shapeOf, conjugateWord}
 use Rattle.theory.specs.ClassWord.{classWord, classOf}
-use Rattle.theory.specs.ClassData.{classSign, classSize, period}
+use Rattle.theory.specs.ClassData.{classSign, classSize, Period}
 use Rattle.theory.specs.Refusals.{shapeChecks, classChecks, shapeListChecks, classListChecks, no-14}
-use Rattle.words.specs.Answers.{worded, numbered, written, WordAnswer, NumberAnswer, CountAnswer}
+use Rattle.words.specs.Answers.{worded, numbered, NumberedBy, written, WordAnswer, NumberAnswer, CountAnswer}
+pub mod Laws
 
 module _ (limit : ℕ) where
   -- ---- shapes
@@ -38,5 +41,5 @@ module _ (limit : ℕ) where
   unfoldable pub sizeOfClass : ℕ → NumberAnswer
   sizeOfClass w = numbered (classChecks limit w) (pos (classSize (classOf w)))
 
-  unfoldable pub periodOfClass : ℕ → NumberAnswer
-  periodOfClass w = numbered (classChecks limit w) (pos (period (classOf w)))
+  unfoldable pub PeriodOfClass : ℕ → NumberAnswer → Type 0
+  PeriodOfClass w answer = NumberedBy (classChecks limit w) (Period (classOf w)) answer

@@ -1,10 +1,11 @@
 // Class words (document 01, "Class word"), and what a class tells.
 ghost use mathlib.Core.Path.{_≡_};
-ghost use Prim.Native.Nat.{_<_, _≤_, _^_};
+ghost use Prim.Native.Nat.{_*_, _<_, _≤_, _^_};
 ghost use Rattle.theory.specs.Basics.{length};
 ghost use Rattle.theory.specs.Partition.{degree};
 ghost use Rattle.theory.specs.ClassWord.{classWord, classOf};
-ghost use Rattle.theory.specs.ClassData.{classDivisor, period};
+ghost use Rattle.theory.specs.ClassData.{classDivisor};
+ghost use Rattle.theory.specs.ClassData.Periods.{multiplier as multiplierOf, periodFrom};
 ghost use Rattle.theory.specs.Limits.{degreeLimit};
 ghost use Rattle.theory.specs.Bounds.Laws.{largestLimit};
 ghost use Rattle.theory.specs.Refusals.{classChecks};
@@ -12,7 +13,7 @@ ghost use Rattle.theory.specs.Refusals.Laws.{WithinClass};
 ghost use Rattle.words.specs.Answers.{Outcome, atFront};
 ghost use Rattle.words.specs.Private.Reading.{measured, ListWithin};
 ghost use Rattle.words.specs.Calls.{classWordFrom, classPartsInto, classDegree};
-ghost use Rattle.words.specs.Calls.{signOfClass, sizeOfClass, periodOfClass};
+ghost use Rattle.words.specs.Calls.{signOfClass, sizeOfClass, PeriodOfClass};
 use super::CountAnswer;
 use super::DEGREES;
 use super::LIMIT;
@@ -228,35 +229,48 @@ pub fn size(word: u32) -> NumberAnswer
     given(FACTORIALS[degree] / divisor(word))
 }
 
-// The product of the different parts of a class.
-fn product_of_different(word: u32) -> u64
+// By how much a number has to be multiplied so that a part divides it: the first of 1, 2, .. that will do.
+fn multiplier(number: u64, part: u64) -> u64
+    requires { ⌜ (0 < part) × (number * part < 2 ^ 63) ⌝ }
+    ensures { λ r. ⌜ r ≡ multiplierOf number part ⌝ }
+{
+    let mut by = 1u64;
+    while number * by % part != 0 {
+        by += 1;
+    }
+    by
+}
+
+// The least positive number that every part of a class divides: what has been reached is multiplied by as little as
+// will do for the next part. One that equals the part before it divides it already.
+fn least_multiple(word: u32) -> u64
     requires { ⌜ WithinClass largestLimit word ⌝ }
-    ensures { λ r. ⌜ r ≡ period (classOf word) ⌝ }
+    ensures { λ r. ⌜ r ≡ periodFrom 1 (classOf word) ⌝ }
 {
     let mut rest = word;
     let mut at = 0u32;
     let mut last = 0u32;
-    let mut product = 1u64;
+    let mut multiple = 1u64;
     while rest != 0 {
         let one = u32::leading_zeros(rest);
         let part = one - at;
         if part != last {
-            product *= part as u64;
+            multiple *= multiplier(multiple, part as u64);
         }
         last = part;
         at = one;
         rest -= 1u32 << (31 - one);
     }
-    product
+    multiple
 }
 
-// The period of a class. Refuses 3, then 4.
+// The period of a class: the least positive number that every part divides. Refuses 3, then 4.
 pub fn period(word: u32) -> NumberAnswer
-    ensures { λ r. ⌜ r ≡ periodOfClass degreeLimit word ⌝ }
+    ensures { λ r. ⌜ PeriodOfClass degreeLimit word r ⌝ }
 {
     let measure = read(word);
     if measure.refused != 0 {
         return refused(measure.refused);
     }
-    given(product_of_different(word))
+    given(least_multiple(word))
 }

@@ -1,41 +1,55 @@
 // What a class tells, against its parts.
 use testing::numbers::natural;
-use testing::numbers::times;
 
-// What is counted from the parts: whether the number of even ones is even, and the product of the different ones.
-pub struct Counted {
-    plus: bool,
-    product: u64,
-}
-
-pub fn count(parts: &[u8]) -> Counted {
+// Whether the number of even parts is even.
+fn is_plus(parts: &[u8]) -> bool {
     let mut plus = true;
-    let mut product = 1u64;
-    let mut last = 0u8;
     let mut i = 0;
     while i < parts.len() {
-        let part = parts[i];
-        if part % 2 == 0 {
+        if parts[i] % 2 == 0 {
             plus = !plus;
         }
-        if part != last {
-            product = times(product, part);
-        }
-        last = part;
         i += 1;
     }
-    Counted { plus, product }
+    plus
 }
 
-pub fn sign_agrees(word: u32, counted: Counted) -> bool {
+// Whether every cycle of a class is back where it began when an element has been repeated so many times.
+fn is_back(parts: &[u8], times: u64) -> bool {
+    let mut i = 0;
+    while i < parts.len() {
+        let part = parts[i] as u64;
+        if part != 0 {
+            if times % part != 0 {
+                return false;
+            }
+        }
+        i += 1;
+    }
+    true
+}
+
+// After how many times an element of a class first is back, tried one time after the other; 0 if not within 1,000.
+fn first_back(parts: &[u8]) -> u64 {
+    let mut times = 1u64;
+    while times <= 1_000 {
+        if is_back(parts, times) {
+            return times;
+        }
+        times += 1;
+    }
+    0
+}
+
+pub fn sign_agrees(word: u32, parts: &[u8]) -> bool {
     let told = words::classes::sign(word);
-    let expected = if counted.plus { 1 } else { -1 };
+    let expected = if is_plus(parts) { 1 } else { -1 };
     (told.refused == 0) & (told.number == expected)
 }
 
-pub fn period_agrees(word: u32, counted: Counted) -> bool {
+pub fn period_agrees(word: u32, parts: &[u8]) -> bool {
     let told = words::classes::period(word);
-    (told.refused == 0) & (natural(told.number) == counted.product)
+    (told.refused == 0) & (natural(told.number) == first_back(parts))
 }
 
 pub fn size(word: u32) -> u64 {

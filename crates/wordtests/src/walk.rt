@@ -47,10 +47,9 @@ fn is_listed(n: u8, number: u64, class: u32) -> bool {
 
 // The checks on what its class tells.
 fn meet_class(found: Found, class: u32, parts: &[u8]) -> Found {
-    let counted = class_data::count(parts);
     let mut f = found;
-    f.signs = f.signs.add(sign_agrees(class, counted));
-    f.periods = f.periods.add(period_agrees(class, counted));
+    f.signs = f.signs.add(sign_agrees(class, parts));
+    f.periods = f.periods.add(period_agrees(class, parts));
     f.rises = f.rises.add((f.number == 0) | (f.last < class));
     f.number = std::num::wrapping_add_u64(f.number, 1);
     f.last = class;

@@ -1,9 +1,11 @@
 -- No second outcome meets a contract. Each theorem is of the contract itself, as Rattle reads it (`Reads.Post`).
-use mathlib.Core.Path.{_≡_, sym, _∙_}
+use mathlib.Core.Path.{_≡_, sym, _∙_, ap}
 use denote.Ref.{now}
 use Rattle.theory.specs.Limits.{degreeLimit}
 use Rattle.words.specs.Answers.Laws.{one-outcome}
+use Rattle.words.specs.declared.NumberAnswer.{NumberAnswer}
 use Rattle.words.specs.Calls.{shapePartsInto, classPartsInto}
+use Rattle.words.specs.Calls.Laws.{one-period-told}
 use Rattle.characters.specs.Calls.{columnInto}
 use Rattle.characters.specs.Opening.{opening}
 use Rattle.characters.specs.Step.{step as stepOf}
@@ -88,7 +90,9 @@ zembrusha-class-size-refusal-once κs a r r′ s s′ p q = p ∙ sym q
 
 pub zembrusha-class-period-once : (κs : _) (a : _) (r r′ : _) (s s′ : _) → class-period.Post κs a r s
     → class-period.Post κs a r′ s′ → r ≡ r′
-zembrusha-class-period-once κs a r r′ s s′ p q = p ∙ sym q
+zembrusha-class-period-once κs a r r′ s s′ p q =
+    let same = one-period-told degreeLimit (a .0) (p .promised) (q .promised) in
+    p .number ∙ ap (λ (answer : NumberAnswer). answer .number) same ∙ sym (q .number)
 
 pub zembrusha-class-period-refusal-once : (κs : _) (a : _) (r r′ : _) (s s′ : _) → class-period-refusal.Post κs a r s
     → class-period-refusal.Post κs a r′ s′ → r ≡ r′

@@ -5,9 +5,12 @@
 --   handedRun outcome               a handed slip and a page: the slip handed over, the page as it is; loadedRun so too
 --   number value                    the whole number that a watch gives, 0 where it gives none; fraction, the ratio
 --   counted outcome                 an answer and a lent run: the answer handed over, the run as it is
+--   NumberOf Promised r             r is the number of an answer that is promised
+use mathlib.Core.Path.{_≡_}
 use lib.Ieee.{Float, binary64, ofBits}
 use Rattle.theory.specs.Basics.{List, ℕ, ℤ, pos}
 use Rattle.words.specs.declared.CountAnswer.{CountAnswer}
+use Rattle.words.specs.declared.NumberAnswer.{NumberAnswer}
 use Rattle.words.specs.declared.WordAnswer.{WordAnswer}
 use Rattle.pages.specs.declared.Slip as calculator
 use Rattle.characters.specs.declared.Handed as calculator-handed
@@ -26,6 +29,11 @@ ofCount a = record { refused = a .refused; number = a .count }
 
 abbrev pub counted : {A : Type 0} → CountAnswer × List A → Number × List A
 counted x = (ofCount (x .0), x .1)
+
+pub record NumberOf (Promised : NumberAnswer → Type 0) (r : ℤ) : Type 0 where
+  pub answer : NumberAnswer
+  pub promised : Promised answer
+  pub number : r ≡ answer .number
 
 abbrev pub given : Slip → calculator.Slip
 given s = record { shape = s .shape; class = s .«class_word»; settled = s .settled; lines = s .lines; steps = s .steps }

@@ -1,8 +1,10 @@
 // Single calls: one export gives the value, another the refusal number for the same words, 0 for none.
 ghost use mathlib.Core.Path.{_≡_};
 ghost use Rattle.theory.specs.Limits.{degreeLimit};
-ghost use Rattle.words.specs.Calls.{shapeDegree, conjugateShape, signOfClass, sizeOfClass, periodOfClass};
+ghost use Rattle.theory.specs.Refusals.{firstOf, classChecks};
+ghost use Rattle.words.specs.Calls.{shapeDegree, conjugateShape, signOfClass, sizeOfClass, PeriodOfClass};
 ghost use Rattle.characters.specs.Calls.{characterOf, shapeCharacterDegree};
+ghost use Rattle.zembrusha.specs.Exports.{NumberOf};
 
 // The character of a shape word on a class word.
 #[no_mangle]
@@ -94,17 +96,17 @@ pub extern "C" fn zembrusha_class_size_refusal(class: u32) -> u32
     words::classes::size(class).refused as u32
 }
 
-// The period of a class.
+// The period of a class: the least positive number that every part divides.
 #[no_mangle]
 pub extern "C" fn zembrusha_class_period(class: u32) -> i64
-    ensures { λ r. ⌜ r ≡ periodOfClass degreeLimit class .number ⌝ }
+    ensures { λ r. ⌜ NumberOf (PeriodOfClass degreeLimit class) r ⌝ }
 {
     words::classes::period(class).number
 }
 
 #[no_mangle]
 pub extern "C" fn zembrusha_class_period_refusal(class: u32) -> u32
-    ensures { λ r. ⌜ r ≡ periodOfClass degreeLimit class .refused ⌝ }
+    ensures { λ r. ⌜ r ≡ firstOf (classChecks degreeLimit class) ⌝ }
 {
     words::classes::period(class).refused as u32
 }

@@ -1,11 +1,12 @@
 -- What holds of each element, what is kept, and totals: of parts of a list, and of the elements that pass a test.
+--   FirstFrom test i k   k is the first of the numbers i, i + 1, .. that passes the test
 use mathlib.Core.Path.{_≡_, refl, sym, ap, _∙_}
 use mathlib.Core.Bool.{false≢true}
-use Prim.Native.Nat.{_≤_}
+use Prim.Native.Nat.{_≤_, _<_}
 use native.Mathlib.Omega.{arith}
 use lib.IntN.{+ℤ-assoc}
-use Rattle.theory.specs.Basics.{Bool, true, false, not, cond, List, [], _∷_, _++_, map, length, ℕ, suc, _+_}
-use Rattle.theory.specs.Basics.{ℤ, _+ℤ_, keep, every, total, sum}
+use Rattle.theory.specs.Basics.{Bool, true, false, not, cond, List, [], _∷_, _++_, map, length, getD}
+use Rattle.theory.specs.Basics.{ℕ, zero, suc, _+_, ℤ, _+ℤ_, keep, every, total, sum, upFrom}
 use Rattle.theory.specs.Basics.Laws.{both, Each}
 use Rattle.theory.specs.Basics.Integers.{swap-front}
 
@@ -81,3 +82,29 @@ module _ {A : Type 0} where
     pub total-append : (xs ys : List A) → total (map f (xs ++ ys)) ≡ total (map f xs) + total (map f ys)
     total-append [] ys = omega arith
     total-append (x ∷ xs) ys = omega (arith, total-append xs ys)
+
+-- ---- the first of some numbers that go up
+pub record FirstFrom (test : ℕ → Bool) (i k : ℕ) : Type 0 where
+  pub from : i ≤ k
+  pub passes : test k ≡ true
+  pub none-before : (j : ℕ) → i ≤ j → j < k → test j ≡ true → ⊥
+
+pub first-kept : (test : ℕ → Bool) (i n b : ℕ) → i ≤ b → b < i + n → test b ≡ true
+    → FirstFrom test i (getD (keep test (upFrom i n)) 0 0)
+first-kept test i zero b l h t = absurd (omega arith)
+first-kept test i (suc n) b l h t = go (test i) refl (λ above. first-kept test (suc i) n b above (omega arith) t)
+  where
+    others : List ℕ
+    others = keep test (upFrom (suc i) n)
+
+    go : (c : Bool) → test i ≡ c → (suc i ≤ b → FirstFrom test (suc i) (getD others 0 0))
+        → FirstFrom test i (getD (cond c (i ∷ others) others) 0 0)
+    go true e later = record { from = omega arith; passes = e; none-before = λ j m k. absurd (omega arith) }
+    go false e later =
+        let other : (j : ℕ) → test j ≡ true → j ≡ i → ⊥ = λ j s q. false≢true (sym e ∙ ap test (sym q) ∙ s) in
+        let r = later (omega (arith, other b t)) in
+        record {
+          from = omega (arith, r .from);
+          passes = r .passes;
+          none-before = λ j m k s. r .none-before j (omega (arith, other j s)) k s;
+        }

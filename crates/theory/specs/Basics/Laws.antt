@@ -1,5 +1,4 @@
 -- Laws of the words of Basics.
---   Each P xs   P holds of each element of xs
 use mathlib.Core.Path.{_≡_, refl, sym, _∙_, ap}
 use mathlib.Core.Bool.{false≢true}
 use mathlib.Core.List.{append-assoc, append-nil, List·Memᴰ, List·Memᴰ·head, List·Memᴰ·tail}
@@ -12,6 +11,7 @@ use lib.IntN.{+ℤ-idl, +ℤ-assoc}
 use Rattle.theory.specs.Basics.{Bool, true, false, not, cond, _&&_, List, [], _∷_, _++_, map, length, getD, take}
 use Rattle.theory.specs.Basics.{ℕ, zero, suc, _+_, _*_, _%_, ℤ, _+ℤ_, odd, keep, count, joined}
 use Rattle.theory.specs.Basics.{total, sum, upFrom}
+pub use Rattle.theory.specs.Basics.{Each}
 
 -- ---- tests
 pub both : (a b : Bool) → a && b ≡ true → (a ≡ true) × (b ≡ true)
@@ -42,10 +42,6 @@ up-from-one n =
 
 -- ---- what holds of each element
 module _ {A : Type 0} where
-  abbrev pub Each : (A → Type 0) → List A → Type 0
-  Each P [] = Unit {0}
-  Each P (x ∷ xs) = P x × Each P xs
-
   pub each-append : (P : A → Type 0) (xs ys : List A) → Each P xs → Each P ys → Each P (xs ++ ys)
   each-append P [] ys e f = f
   each-append P (x ∷ xs) ys e f = (e .0, each-append P xs ys (e .1) f)

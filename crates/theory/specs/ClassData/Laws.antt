@@ -1,8 +1,6 @@
--- Laws of what a class tells: it can be told by one reading of the parts, longest first.
+-- Laws of what a class tells: its sign and its divisor can be told by one reading of the parts, longest first.
 --   occurrence last t p      how often p has occurred once it is read behind t parts `last`
 --   divisorAfter last t ps   each of the parts ps times its occurrence, read behind t parts `last`
---   newPart last p           p, and 1 where it is the part `last` once more
---   periodAfter last ps      the product of the parts ps that are not the part before them, read behind a part `last`
 use mathlib.Core.Path.{_≡_, refl, sym, _∙_, ap}
 use Prim.Native.Nat.{_≤_, _<_}
 use native.Mathlib.Decide.{ℕ-discrete}
@@ -16,7 +14,7 @@ use Rattle.theory.specs.Partition.{Parts, first, isPartition, degree, ti
 use Rattle.theory.specs.Partition.Laws.{front, length-degree}
 use Rattle.theory.specs.Bounds.{factorial}
 use Rattle.theory.specs.Bounds.Laws.{factorial-share}
-use Rattle.theory.specs.ClassData.{different, classSign, classDivisor, period}
+use Rattle.theory.specs.ClassData.{different, classSign, classDivisor}
 
 -- ---- the sign: a part p is p - 1 exchanges
 parity : (ps : Parts) → (count (λ p. not (odd p)) ps + length ps) % 2 ≡ degree ps % 2
@@ -139,34 +137,6 @@ positive-after last t (p ∷ ps) h =
 pub divisor-positive : (ps : Parts) → isPartition ps ≡ true → 0 < classDivisor ps
 divisor-positive ps h = rw (← divisor-read ps h) (positive-after 0 0 ps h)
 
--- ---- the period by one reading
-abbrev pub newPart : ℕ → ℕ → ℕ
-newPart last p = cond (p =? last) 1 p
-
-abbrev pub periodAfter : ℕ → Parts → ℕ
-periodAfter last [] = 1
-periodAfter last (p ∷ ps) = newPart last p * periodAfter p ps
-
-period-with : (q : ℕ) (ps : Parts) → isPartition ps ≡ true → first ps ≤ q → q * periodAfter q ps ≡ period (q ∷ ps)
-unfolding period
-period-with q [] h l = refl
-period-with q (p ∷ ps) h l =
-    let f = front p ps h in
-    elim (ℕ-discrete p q) [
-      | yes e ↦
-          rw (e, ne-eqb (times q (q ∷ ps)) 0 (omega (arith, times-same q ps 1)), eq-eqb q q refl, one-mul)
-          (period-with q ps (f .rest) (omega (arith, f .falls)))
-      | no n ↦
-          rw (below-none q (p ∷ ps) h (omega arith), ne-eqb p q n)
-          (ap (λ (n : ℕ). q * n) (period-with p ps (f .rest) (f .falls)))
-    ]
-
-pub period-read : (ps : Parts) → isPartition ps ≡ true → periodAfter 0 ps ≡ period ps
-period-read [] h = unfold period in refl
-period-read (p ∷ ps) h =
-    let f = front p ps h in
-    rw (ne-eqb p 0 (omega arith)) (period-with p ps (f .rest) (f .falls))
-
 -- ---- room: with the degree d grown to e, there is room for a factor of at most e
 pub factor-room : (d e k x : ℕ) → d < e → k ≤ e → x ≤ factorial d → x * k ≤ factorial e
 factor-room d e k x h l b =
@@ -179,16 +149,3 @@ occurrence-room last t p d h = elim (ℕ-discrete p last) [
   | yes e ↦ rw (e, eq-eqb last last refl) (omega arith)
   | no n ↦ rw (ne-eqb p last n) (omega arith)
 ]
-
-pub period-room : (ps : Parts) → isPartition ps ≡ true → period ps ≤ factorial (degree ps)
-unfolding period
-period-room [] h = unfold factorial in omega arith
-period-room (p ∷ ps) h =
-    let f = front p ps h in
-    go (times p ps =? 0) (f .positive)
-    (λ k l. factor-room (degree ps) (p + degree ps) k (period ps) (omega arith) l (period-room ps (f .rest)))
-  where
-    go : (b : Bool) → 0 < p → ((k : ℕ) → k ≤ p + degree ps → period ps * k ≤ factorial (p + degree ps))
-        → product (cond b (p ∷ different ps) (different ps)) ≤ factorial (p + degree ps)
-    go true h room = omega (arith, room p (omega arith))
-    go false h room = omega (arith, room 1 (omega arith))

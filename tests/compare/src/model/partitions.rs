@@ -65,9 +65,20 @@ pub fn size(class: &[u8]) -> i64 {
     i64::try_from(factorial(degree(class)) / divisor).unwrap()
 }
 
-/// The product of the different part lengths.
+/// After how many times a permutation of this class is first back at the start, found by repeating one.
 pub fn period(class: &[u8]) -> i64 {
-    occurrences(class).keys().map(|&p| i64::from(p)).product()
+    let mut next = vec![];
+    for part in class.iter().map(|&part| usize::from(part)) {
+        let start = next.len();
+        next.extend((0..part).map(|i| start + (i + 1) % part));
+    }
+    let mut now = next.clone();
+    let mut times = 1;
+    while now.iter().enumerate().any(|(element, &at)| at != element) {
+        now.iter_mut().for_each(|at| *at = next[*at]);
+        times += 1;
+    }
+    times
 }
 
 /// The class without one cycle of this length, if it has one.

@@ -1,7 +1,7 @@
--- `zembrusha::singles::zembrusha_class_period_refusal` meets its contract: it hands on what the call answers.
-use mathlib.Core.Path.{ap}
+-- `zembrusha::singles::zembrusha_class_period_refusal` meets its contract: the call refuses as the checks do.
 use borrow.Author.Needs.{needs}
-use Rattle.words.specs.declared.NumberAnswer.{NumberAnswer}
+use Rattle.theory.specs.Limits.{degreeLimit}
+use Rattle.words.specs.Calls.Laws.{period-refusal}
 use Rattle.zembrusha.proofs.singles.zembrusha_class_period_refusal.Statement.{statement}
 use Rattle.zembrusha.proofs.singles.zembrusha_class_period_refusal.Tie as tie
 
@@ -12,7 +12,7 @@ cast-result : tie.Need-cast-result
 cast-result c = search needs
 
 returns : tie.Need-returns
-returns c = ap (λ (answer : NumberAnswer). answer .refused) (c .before .period .ensures)
+returns c = period-refusal degreeLimit _ _ (c .before .period .ensures)
 
 pub zembrusha-class-period-refusal-spec : {M : Type 1} → statement M
 zembrusha-class-period-refusal-spec = tie.close (tie.spec period-requires cast-result returns)

@@ -68,17 +68,24 @@ period-joined {n} {p} {m} {x} two all =
     }
 
 -- two parts: the first multiple of the one that the other divides
-first-multiple : (n p k : ℕ) → 0 < n → 0 < k → p ∣ n * k → ((j : ℕ) → 0 < j → j < k → p ∣ n * j → ⊥)
-    → Period (n ∷ p ∷ []) (n * k)
-first-multiple n p k some more divides none =
+pub record Multiplies (n p k : ℕ) : Type 0 where
+  pub positive : 0 < k
+  pub divides : n * k % p ≡ 0
+  pub none-below : (j : ℕ) → 0 < j → j < k → n * j % p ≡ 0 → ⊥
+
+first-multiple : (n p k : ℕ) → 0 < n → Multiplies n p k → Period (n ∷ p ∷ []) (n * k)
+first-multiple n p k some first =
     record {
-      divided = record { positive = mul-pos some more; by-each = (dvd-mul-right n k, (divides, tt)) };
+      divided = record {
+        positive = mul-pos some (first .positive);
+        by-each = (dvd-mul-right n k, (dvd-of-mod-eq-zero p (first .divides), tt));
+      };
       least = λ m d.
           let j : ℕ = m / n in
           let e : n * j ≡ m = mul-div-cancel' n (d .by-each .0) in
           let above : 0 < j = pos-of-ne-zero (λ z. omega (arith, d .positive, sym e ∙ ap (λ (i : ℕ). n * i) z)) in
           elim (decLt j k) [
-            | yes l ↦ absurd (none j above l (rw (← e) at (d .by-each .1 .0)))
+            | yes l ↦ absurd (first .none-below j above l (rw e (mod-eq-zero-of-dvd p (d .by-each .1 .0))))
             | no f ↦ rw (← e) (mul-le-mul-left n (omega (arith, f)))
           ];
     }
@@ -90,11 +97,6 @@ multiplier n p = first (keep (λ k. n * k % p =? 0) (upFrom 1 p))
 abbrev pub periodFrom : ℕ → Parts → ℕ
 periodFrom n [] = n
 periodFrom n (p ∷ ps) = periodFrom (n * multiplier n p) ps
-
-pub record Multiplies (n p k : ℕ) : Type 0 where
-  pub positive : 0 < k
-  pub divides : n * k % p ≡ 0
-  pub none-below : (j : ℕ) → 0 < j → j < k → n * j % p ≡ 0 → ⊥
 
 module _ (n p : ℕ) (part : 0 < p) where
   pub multiplies : Multiplies n p (multiplier n p)
@@ -121,18 +123,13 @@ module _ (n p : ℕ) (part : 0 < p) where
       let above : p < multiplier n p → ⊥ = λ l. multiplies .none-below p part l (mul-mod-left n p) in
       omega (arith, above)
 
-  multiplier-two : 0 < n → Period (n ∷ p ∷ []) (n * multiplier n p)
-  multiplier-two some =
-      let m = multiplies in
-      first-multiple n p (multiplier n p) some (m .positive) (dvd-of-mod-eq-zero p (m .divides))
-      (λ j h l d. m .none-below j h l (mod-eq-zero-of-dvd p d))
-
 period-of-all : (n : ℕ) (ps : Parts) → 0 < n → isPartition ps ≡ true → Period (n ∷ ps) (periodFrom n ps)
 period-of-all n [] some h = period-of-multiple n [] some tt
 period-of-all n (p ∷ ps) some h =
     let f = front p ps h in
-    let more = mul-pos some (multiplies n p (f .positive) .positive) in
-    period-joined (multiplier-two n p (f .positive) some) (period-of-all (n * multiplier n p) ps more (f .rest))
+    let m = multiplies n p (f .positive) in
+    period-joined (first-multiple n p (multiplier n p) some m)
+    (period-of-all (n * multiplier n p) ps (mul-pos some (m .positive)) (f .rest))
 
 pub period-computed : (ps : Parts) → isPartition ps ≡ true → Period ps (periodFrom 1 ps)
 period-computed ps h = period-one (period-of-all 1 ps (omega arith) h)

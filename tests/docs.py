@@ -31,9 +31,9 @@ PROMISES, READING, DECISIONS = 'docs/PROMISES.md', 'docs/READING.md', 'docs/DECI
 WORDS = set('''requires ensures abbrev unfoldable pub mod enum struct extern u8 u64 i64 usize f64 read write
 rt help stdout NAME CRATE
 '''.split()) | {
-    'x ∷ xs', '[]', '++', '≡', '×', '→ ⊥', '(n : ℕ) × P', '(_=? p)', 'cond b x y', 'elim z [ | pos n ↦ .. ]',
-    'r .refused', '.0', '.1', 'now (page .entry)', 'now (page .exit)', '&', '&[u8]', '&[..]', '&[u64]', '&mut [..]',
-    '&mut [u64]', '&mut [i64]', '!s & (s << h)', 'suc zero', 'extern "C"', '-lzembrusha',
+    'x ∷ xs', '[]', '++', '≡', 'p ∣ n', '×', '→ ⊥', '(n : ℕ) × P', '(_=? p)', 'cond b x y',
+    'elim z [ | pos n ↦ .. ]', 'r .refused', '.0', '.1', 'now (page .entry)', 'now (page .exit)', '&', '&[u8]', '&[..]',
+    '&[u64]', '&mut [..]', '&mut [u64]', '&mut [i64]', '!s & (s << h)', 'suc zero', 'extern "C"', '-lzembrusha',
     'X: name', 'X.antt', 'specs/X.antt', 'specs/X/', 'proofs/F/Proof.antt', 'crate::function',
     'degree=', 'degree=3', 'class=', 'class=3', 'refused=12', 'refused=13', 'table 5', '0x2C000000',
     'N passed, 0 failed', 'old:', 'new:', 'pub mod', 'pub fn'}

@@ -78,7 +78,7 @@ def class_size(c):
 
 
 def period(c):
-    """The least positive number that every part divides: Python's own."""
+    """The least positive number that every part divides, by Python's lcm."""
     return lcm(*c)
 
 

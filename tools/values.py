@@ -557,7 +557,7 @@ def loads(n, seed):
 CONSTRUCTORS = {
     'Rattle.theory.specs.Basics': 'Bool true false List [] _∷_ _++_ replicate getD ℕ ℤ pos negsuc'.split(),
     'Rattle.theory.specs.Hooks': ['Hook'],
-    'Rattle.theory.specs.ClassData.Periods': ['periodFrom'],
+    'Rattle.theory.specs.ClassData.Periods': ['periodFrom'],  # of a file of laws, which `definitions` passes over
     'Rattle.words.specs.declared.CountAnswer': ['CountAnswer'],
     'Rattle.pages.specs.declared.Slip': ['Slip'],
     'Rattle.pages.specs.Line': ['Line'],

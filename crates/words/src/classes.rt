@@ -242,7 +242,7 @@ fn multiplier(number: u64, part: u64) -> u64
 }
 
 // The least positive number that every part of a class divides: what has been reached is multiplied by as little as
-// will do for the next part. One that equals the part before it divides it already.
+// will do for the next part. A part that equals the one before it divides that already, and is passed over.
 fn least_multiple(word: u32) -> u64
     requires { ⌜ WithinClass largestLimit word ⌝ }
     ensures { λ r. ⌜ r ≡ periodFrom 1 (classOf word) ⌝ }

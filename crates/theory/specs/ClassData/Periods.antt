@@ -1,7 +1,7 @@
 -- Laws of the period (document 02, P2): there is one and only one, and part by part it can be computed.
 --   Multiplies n p k  k is the least positive number for which p divides n times k
 --   multiplier n p    by how much n has to be multiplied so that p divides it: the first such of 1, 2, .., p
---   periodFrom n ps   the period of n and the parts ps: n is multiplied by its multiplier at each part in turn
+--   periodFrom n ps   n multiplied, at each of the parts ps in turn, by the multiplier of what has been reached
 use mathlib.Core.Path.{_≡_, refl, sym, _∙_, ap}
 use Prim.Native.Nat.{_≤_, _<_, _∣_}
 use native.Mathlib.Decide.{ℕ-discrete, decLt}
@@ -19,7 +19,7 @@ use Rattle.theory.specs.Bounds.{factorial}
 use Rattle.theory.specs.Bounds.Laws.{factorial-positive}
 use Rattle.theory.specs.ClassData.{Divided, Period}
 
--- ---- there is only one, and it divides every other number that every part divides
+-- ---- there is only one, and it divides every positive number that every part divides
 pub one-period : {ps : Parts} {m n : ℕ} → Period ps m → Period ps n → m ≡ n
 one-period {ps} {m} {n} p q = le-antisymm (p .least n (q .divided)) (q .least m (p .divided))
 
@@ -36,8 +36,7 @@ period-divides {ps} {n} {m} p d = elim (ℕ-discrete (m % n) 0) [
       absurd (omega (arith, p .least (m % n) rest, mod-lt m (p .divided .positive)))
 ]
 
--- ---- how it is computed: a part 1 changes nothing, a part that the others divide is the period, and two parts can
--- give way to their own period
+-- ---- how it is computed: a part 1 changes nothing, a part alone is its own period, and two parts can give way to theirs
 period-one : {ps : Parts} {n : ℕ} → Period (1 ∷ ps) n → Period ps n
 period-one p =
     record {
@@ -45,10 +44,10 @@ period-one p =
       least = λ m d. p .least m (record { positive = d .positive; by-each = (one-dvd m, d .by-each) });
     }
 
-period-of-multiple : (n : ℕ) (ps : Parts) → 0 < n → Each (_∣ n) ps → Period (n ∷ ps) n
-period-of-multiple n ps some others =
+period-alone : (n : ℕ) → 0 < n → Period (n ∷ []) n
+period-alone n some =
     record {
-      divided = record { positive = some; by-each = (dvd-refl n, others) };
+      divided = record { positive = some; by-each = (dvd-refl n, tt) };
       least = λ m d. le-of-dvd (d .positive) (d .by-each .0);
     }
 
@@ -124,7 +123,7 @@ module _ (n p : ℕ) (part : 0 < p) where
       omega (arith, above)
 
 period-of-all : (n : ℕ) (ps : Parts) → 0 < n → isPartition ps ≡ true → Period (n ∷ ps) (periodFrom n ps)
-period-of-all n [] some h = period-of-multiple n [] some tt
+period-of-all n [] some h = period-alone n some
 period-of-all n (p ∷ ps) some h =
     let f = front p ps h in
     let m = multiplies n p (f .positive) in

@@ -1,5 +1,5 @@
--- One answer to a word tells the period of its class, and no second one does; it refuses as the checks do (document 02,
--- P2; document 01, "What the contracts have to say").
+-- To every word there is one answer that `PeriodOfClass` promises, and no second; it refuses as the checks do (document
+-- 02, P2; document 01, "What the contracts have to say").
 use mathlib.Core.Path.{_≡_, refl}
 use Rattle.theory.specs.Basics.{ℕ, pos}
 use Rattle.theory.specs.ClassWord.{classOf}

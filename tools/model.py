@@ -201,24 +201,37 @@ def opened(s, c, page):
     return 0, (s, c, 0 if lines else 1, len(lines), 0), lines + [0] * (len(page) - len(lines))
 
 
-def stepped(slip, page, i, cycle):
-    """What a step answers: refusal number, slip, page."""
+def struck(slip, page, i, cycle):
+    """What comes of a line and a cycle that are named: refusal number, new lines, what is settled."""
+    k = first_of((len(page) > PAGE, 6), (not sound(slip, page), 7), (i >= slip[3], 8))
+    if k:
+        return k, [], 0
+    sign, t, u = line(page[i])
+    parts = list(class_of(u))
+    if cycle not in parts:
+        return 9, [], 0
+    parts.remove(cycle)
+    found = [(-sign if minus else sign, left) for minus, left in hooks(shape_of(t), cycle)]
+    new = [line_word(e, shape_word(left), class_word(parts)) for e, left in found if left]
+    return 0, new, sum(e for e, left in found if not left)
+
+
+def previewed(slip, page, i, cycle, strip):
+    """What a preview answers: refusal number, count, strip."""
+    k, new, _ = struck(slip, page, i, cycle)
+    k = k or first_of((len(new) > len(strip), 18))
+    return (k, 0, strip) if k else (0, len(new), new + strip[len(new):])
+
+
+def committed(slip, page, i, cycle, strip):
+    """What a commit answers: refusal number, slip, page."""
+    k, new, sign = struck(slip, page, i, cycle)
     s, c, settled, lines, steps = slip
-    k = first_of((len(page) > PAGE, 6), (not sound(slip, page), 7), (i >= lines, 8))
-    if not k:
-        sign, t, u = line(page[i])
-        parts = list(class_of(u))
-        k = 0 if cycle in parts else 9
-    if not k:
-        parts.remove(cycle)
-        found = [(-sign if minus else sign, left) for minus, left in hooks(shape_of(t), cycle)]
-        waiting = [line_word(e, shape_word(left), class_word(parts)) for e, left in found if left]
-        after = page[:i] + page[i + 1:lines] + waiting
-        k = 10 if len(after) > len(page) else 0
+    after = page[:i] + page[i + 1:lines] + new
+    k = k or first_of((strip[:len(new)] != new, 19), (len(after) > len(page), 10))
     if k:
         return k, slip, page
-    settled += sum(e for e, left in found if not left)
-    return 0, (s, c, settled, len(after), steps + 1), after + [0] * (len(page) - len(after))
+    return 0, (s, c, settled + sign, len(after), steps + 1), after + [0] * (len(page) - len(after))
 
 
 def watched(slip, page, kind, i):

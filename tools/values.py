@@ -9,12 +9,12 @@ A copy of the crates is made in a temporary folder, with crates beside them that
 these; what the repository has proved already is not proved again. Then some values of each notion are changed at
 random, one in an equation, and the checker has to refuse every such equation: so the comparison can fail.
 
-    python3 tools/values.py                  characters and watches up to degree 10; words, hooks, steps, texts up to 16
+    python3 tools/values.py                  characters and watches up to degree 10, the rest up to 16
     python3 tools/values.py --degree 8       characters and watches less far
-    python3 tools/values.py --only steps,watches --seed 7    some notions, other random cases
+    python3 tools/values.py --only commits,watches --seed 7    some notions, other random cases
     python3 tools/values.py --keep DIR       leave the equations in DIR, to be read
 
-Without options it compares some 42,000 values of 2,500 equations, in 200 seconds of processor time on as many cores as
+Without options it compares some 45,000 values of 3,300 equations, in 200 seconds of processor time on as many cores as
 there are up to four (five minutes were seen on two busy ones); longer where the crates have to be proved first.
 
 It is run by hand, and is no part of the gate. The exit status is 0 only if every value agrees and every changed one is
@@ -36,9 +36,9 @@ from math import factorial
 
 sys.dont_write_bytecode = True
 from model import (  # noqa: E402
-    LIMIT, PAGE, character, class_of, class_refusal, class_size, class_word, first_of, hooks, line, line_word,
-    list_refusal, most_steps, opened, pair_refusal, partitions, period, shape_of, shape_refusal, shape_word, sound,
-    stepped, transposed, watched)
+    LIMIT, PAGE, character, class_of, class_refusal, class_size, class_word, committed, first_of, hooks, line, line_word,
+    list_refusal, most_steps, opened, pair_refusal, partitions, period, previewed, shape_of, shape_refusal, shape_word,
+    sound, struck, transposed, watched)
 from texts import LEAST, MOST, by_hand, bytes_of, damaged, loaded, put_away, saved, taken_up  # noqa: E402
 
 CRATES = ['theory', 'text', 'words', 'listing', 'pages', 'characters', 'sessiontext']
@@ -99,7 +99,7 @@ def bytes_text(text):
 
 
 def left_text(answer):
-    """What an opening or a step answers."""
+    """What an opening or a commit answers."""
     k, slip, page = answer
     return 'after %d %s %s' % (k, slip_text(slip), nats(page))
 
@@ -137,7 +137,7 @@ def some_lists(seed, count):
 
 
 def some_sessions(n, seed):
-    """Slips and pages of degree n, from openings on pages of some length, stepped at random; and these spoilt."""
+    """Slips and pages of degree n, from openings on pages of some length, struck at random; and these spoilt."""
     r = random.Random('%s %s' % (seed, n))
     for turn in range(6):
         s, c = (f(r.choice(partitions(n))) for f in (shape_word, class_word))
@@ -149,7 +149,8 @@ def some_sessions(n, seed):
                 break
             i = r.randrange(slip[3])
             cycles = class_of(line(page[i])[2])
-            k, slip, page = stepped(slip, page, i, r.choice([max(cycles), r.choice(cycles)]))
+            cycle = r.choice([max(cycles), r.choice(cycles)])
+            k, slip, page = committed(slip, page, i, cycle, struck(slip, page, i, cycle)[1])
             yield spoilt(r, slip, page)
             if k:
                 break
@@ -470,16 +471,37 @@ def openings_refused(n, seed):
             yield call('opening', nat(s), nat(c), nats(page)), left_text(opened(s, c, page))
 
 
-@notion(each=4, least=LIMIT)
-def steps(n, seed):
-    """Steps on slips and pages of random sessions, and on spoilt ones: every cycle and none, lines past the end."""
-    r = random.Random('%s %s steps' % (seed, n))
+def some_strikes(n, seed, r):
+    """Named lines and cycles on slips and pages of random sessions, and on spoilt ones: every cycle and none, lines
+    past the end."""
     for slip, page in some_sessions(n, seed):
         i = r.choice([r.randint(0, max(0, slip[3] - 1)), r.randint(0, slip[3])])
         cycles = class_of(line(page[i])[2]) if i < len(page) else ()
         for cycle in {r.choice(cycles or (1,)), r.randint(0, n)}:
-            text = call('step', slip_text(slip), nats(page), nat(i), nat(cycle))
-            yield text, left_text(stepped(slip, page, i, cycle))
+            yield slip, page, i, cycle
+
+
+@notion(each=4, least=LIMIT)
+def previews(n, seed):
+    """Previews on strips of all lengths up to three words more than they need."""
+    r = random.Random('%s %s previews' % (seed, n))
+    for slip, page, i, cycle in some_strikes(n, seed, r):
+        strip = [r.getrandbits(64) for _ in range(r.randint(0, len(struck(slip, page, i, cycle)[1]) + 3))]
+        k, count, left = previewed(slip, page, i, cycle, strip)
+        text = call('preview', slip_text(slip), nats(page), nat(i), nat(cycle), nats(strip))
+        yield text, 'counted %d %d %s' % (k, count, nats(left))
+
+
+@notion(each=4, least=LIMIT)
+def commits(n, seed):
+    """Commits with the preview's strip, and with one that is longer, shorter, changed in a word or turned round."""
+    r = random.Random('%s %s commits' % (seed, n))
+    for slip, page, i, cycle in some_strikes(n, seed, r):
+        new = struck(slip, page, i, cycle)[1]
+        changed = [w ^ 1 << r.randrange(64) if place == 0 else w for place, w in enumerate(new)]
+        for strip in r.sample([new, new, new + [r.getrandbits(64)], new[:-1], changed, new[::-1]], 2):
+            text = call('commit', slip_text(slip), nats(page), nat(i), nat(cycle), nats(strip))
+            yield text, left_text(committed(slip, page, i, cycle, strip))
 
 
 @notion(each=4)

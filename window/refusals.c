@@ -25,6 +25,8 @@ static const char *const REFUSALS[] = {
     [ZEMBRUSHA_NO_SUCH_KIND] = "no such kind of watch",
     [ZEMBRUSHA_BAD_TEXT] = "the text is not of its form",
     [ZEMBRUSHA_BUFFER_TOO_SHORT] = "the text buffer is too short",
+    [ZEMBRUSHA_STRIP_TOO_SHORT] = "the strip is too short",
+    [ZEMBRUSHA_NOT_THAT_PREVIEW] = "the strip is not that preview",
 };
 
 /* What each line of a session's text has to be; the last stands for all that follow. */

@@ -1,4 +1,5 @@
-/* session.c: a session of the library, opened for a shape and a class or taken up again, struck, watched and shown. */
+/* session.c: a session of the library, opened for a shape and a class or taken up again, previewed, struck, watched and
+ * shown. */
 #include <inttypes.h>
 #include <stdio.h>
 
@@ -48,14 +49,76 @@ void take_up_session(struct session *session, struct zembrusha_slip slip)
     }
 }
 
-/* Keeps what the library hands back: where it refuses, the slip that was given. */
+/* Puts what would come of a strike on a strip, which has room for it; gives the count, or why it is refused. */
+static struct zembrusha_number preview(const struct session *session, uint64_t line, uint64_t cycle, uint64_t *strip)
+{
+    return zembrusha_preview(
+        session->slip, session->page, ZEMBRUSHA_PAGE_LIMIT, line, cycle, strip, ZEMBRUSHA_STRIP_ROOM);
+}
+
+/* Commits what was previewed, and keeps what the library hands back: where it refuses, the slip that was given. Gives
+ * why it is refused, or 0. */
+static uint32_t commit(struct session *session, uint64_t line, uint64_t cycle, const uint64_t *strip)
+{
+    struct zembrusha_handed handed = zembrusha_commit(
+        session->slip, session->page, ZEMBRUSHA_PAGE_LIMIT, line, cycle, strip, ZEMBRUSHA_STRIP_ROOM);
+    session->slip = handed.slip;
+    return handed.refused;
+}
+
+/* A strike is a preview and its commit. */
 void strike_cycle(struct session *session, uint64_t line, uint64_t cycle)
 {
-    struct zembrusha_handed handed = zembrusha_step(session->slip, session->page, ZEMBRUSHA_PAGE_LIMIT, line, cycle);
-    if (handed.refused != 0) {
-        refuse(handed.refused);
+    uint64_t strip[ZEMBRUSHA_STRIP_ROOM] = {0};
+    uint32_t refused = preview(session, line, cycle, strip).refused;
+    if (refused == 0) {
+        refused = commit(session, line, cycle, strip);
     }
-    session->slip = handed.slip;
+    if (refused != 0) {
+        refuse(refused);
+    }
+}
+
+/* The sign, the shape and the class that a word of a page or a strip has. */
+static void show_word(uint64_t word)
+{
+    char sign = word >> 63 == 1 ? '-' : '+';
+    struct shown shape = shape_text((uint32_t)(word >> 32) & 0x7FFFFFFF);
+    printf("%c %s on %s", sign, shape.text, class_text((uint32_t)word).text);
+}
+
+/* What a strike would add to settled. No call tells it, so the commit is made on a copy of the session: the number is
+ * then the library's own, from the call that a strike makes, and so is the refusal where the page has no room. */
+static void show_settling(const struct session *session, uint64_t line, uint64_t cycle, const uint64_t *strip)
+{
+    struct session copy = *session;
+    uint32_t refused = commit(&copy, line, cycle, strip);
+    if (refused == 0) {
+        printf("would be added to settled: %" PRId64 "\n", copy.slip.settled - session->slip.settled);
+    } else {
+        printf("a strike would be ");
+        refuse(refused);
+    }
+}
+
+/* The lines in the order of the hooks, and below them what would be settled. */
+void preview_cycle(const struct session *session, uint64_t line, uint64_t cycle)
+{
+    uint64_t strip[ZEMBRUSHA_STRIP_ROOM] = {0};
+    struct zembrusha_number previewed = preview(session, line, cycle, strip);
+    if (previewed.refused != 0) {
+        refuse(previewed.refused);
+        return;
+    }
+    for (uint64_t i = 0; i < previewed.number; i++) {
+        printf("would come: ");
+        show_word(strip[i]);
+        printf("\n");
+    }
+    if (previewed.number == 0) {
+        printf("no line would come\n");
+    }
+    show_settling(session, line, cycle, strip);
 }
 
 /* The bound on the steps of an opening of degree n: S(0) = 0 and S(d) = 1 + d S(d-1). */
@@ -82,11 +145,10 @@ static void show_cycles(const struct partition *cycles)
 /* A waiting line: number, sign, shape, class, cycles; where it is watched, its signed character and its ratio. */
 static void show_line(const struct session *session, uint64_t line, bool watched)
 {
-    uint64_t word = session->page[line];
-    char sign = word >> 63 == 1 ? '-' : '+';
-    struct shown shape = shape_text((uint32_t)(word >> 32) & 0x7FFFFFFF);
-    struct partition cycles = class_partition((uint32_t)word);
-    printf("line %" PRIu64 ": %c %s on %s, ", line, sign, shape.text, partition_text(&cycles).text);
+    struct partition cycles = class_partition((uint32_t)session->page[line]);
+    printf("line %" PRIu64 ": ", line);
+    show_word(session->page[line]);
+    printf(", ");
     show_cycles(&cycles);
     if (watched) {
         double ratio =

@@ -1,4 +1,5 @@
-/* session.h: a session of the library, opened for a shape and a class or taken up again, struck, watched and shown. */
+/* session.h: a session of the library, opened for a shape and a class or taken up again, previewed, struck, watched and
+ * shown. */
 #ifndef SESSION_H
 #define SESSION_H
 
@@ -22,6 +23,10 @@ void open_session(struct session *session, uint32_t shape, uint32_t class);
 
 /* Takes up the session of a slip, the lines of which stand on the page already. */
 void take_up_session(struct session *session, struct zembrusha_slip slip);
+
+/* Shows the lines that would come if a cycle were struck from a waiting line, and what would be settled; nothing is
+ * changed. Where it is refused, it says so. */
+void preview_cycle(const struct session *session, uint64_t line, uint64_t cycle);
 
 /* Strikes a cycle from a waiting line. Where it is refused, it says so, and the session stays as it was. */
 void strike_cycle(struct session *session, uint64_t line, uint64_t cycle);

@@ -1,6 +1,6 @@
-/* zembrusha: a window on the calculator, in the terminal. It opens a session for a shape and a class, strikes cycles
- * from waiting lines, and shows after each command how the session stands. It reads commands from a person at a
- * terminal, whom it prompts, or from a script on standard input. Every number comes from the library's calls.
+/* zembrusha: a window on the calculator, in the terminal. It opens a session for a shape and a class, previews and
+ * strikes cycles of waiting lines, and shows after each command how the session stands. It reads commands from a person
+ * at a terminal, whom it prompts, or from a script on standard input. Every number comes from the library's calls.
  *
  * Here are the commands and the prompt; session.c, storing.c and table.c do what is asked, reading.c reads what is
  * typed. */
@@ -61,14 +61,32 @@ static void run_character(struct session *session, char **arguments)
     }
 }
 
+/* Reads a line and a cycle. Where one of them is no number, it says so, with the form that they should have. */
+static bool read_line_and_cycle(char **arguments, const char *form, uint64_t *line, uint64_t *cycle)
+{
+    bool both = read_number(arguments[0], line) && read_number(arguments[1], cycle);
+    if (!both) {
+        refuse_input(form);
+    }
+    return both;
+}
+
+/* Shows what striking a cycle from a line would bring, where both numbers are read. */
+static void run_preview(struct session *session, char **arguments)
+{
+    uint64_t line = 0;
+    uint64_t cycle = 0;
+    if (read_line_and_cycle(arguments, "preview LINE CYCLE, both decimal numbers", &line, &cycle)) {
+        preview_cycle(session, line, cycle);
+    }
+}
+
 /* Strikes a cycle from a line, where both numbers are read. */
 static void run_strike(struct session *session, char **arguments)
 {
     uint64_t line = 0;
     uint64_t cycle = 0;
-    if (!read_number(arguments[0], &line) || !read_number(arguments[1], &cycle)) {
-        refuse_input("strike LINE CYCLE, both decimal numbers");
-    } else {
+    if (read_line_and_cycle(arguments, "strike LINE CYCLE, both decimal numbers", &line, &cycle)) {
         strike_cycle(session, line, cycle);
     }
 }
@@ -105,6 +123,7 @@ static void run_help(struct session *session, char **arguments);
 /* All commands, in the order in which help shows them. */
 static const struct command COMMANDS[] = {
     {"open", 2, run_open, SHOW_SESSION, "open SHAPE CLASS", "opens a session, as open 3,2 3,2"},
+    {"preview", 2, run_preview, SHOW_SESSION, "preview LINE CYCLE", "shows what a strike would bring, as preview 0 3"},
     {"strike", 2, run_strike, SHOW_SESSION, "strike LINE CYCLE", "strikes a cycle from a waiting line, as strike 0 3"},
     {"lines", 0, NULL, SHOW_SESSION, "lines", "shows the session and its waiting lines"},
     {"watch", 0, NULL, SHOW_WATCHED, "watch", "shows them with signed characters, ratios and sums"},

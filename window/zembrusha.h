@@ -25,14 +25,16 @@ enum zembrusha_refusal {
     ZEMBRUSHA_NOT_SOUND = 7,         /* slip and page not sound */
     ZEMBRUSHA_NO_SUCH_LINE = 8,      /* no such line */
     ZEMBRUSHA_NO_SUCH_CYCLE = 9,     /* the line's class has no such cycle (0 included) */
-    ZEMBRUSHA_PAGE_FULL = 10,        /* opening, step or load would hold more lines than the page has words */
+    ZEMBRUSHA_PAGE_FULL = 10,        /* opening, commit or load would hold more lines than the page has words */
     ZEMBRUSHA_NO_SUCH_RANK = 11,     /* rank not in the list */
     ZEMBRUSHA_DEGREE_TOO_LARGE = 12, /* listing or table degree above 16 */
     ZEMBRUSHA_BAD_INPUT = 13,        /* program input not of its form */
     ZEMBRUSHA_COLUMN_TOO_SHORT = 14, /* column shorter than the list, or than the parts to be written */
     ZEMBRUSHA_NO_SUCH_KIND = 15,     /* watch kind not 1 to 5 */
     ZEMBRUSHA_BAD_TEXT = 16,         /* session's text not of its form: zembrusha_load says at which of its lines */
-    ZEMBRUSHA_BUFFER_TOO_SHORT = 17  /* text buffer too short for the session's text */
+    ZEMBRUSHA_BUFFER_TOO_SHORT = 17, /* text buffer too short for the session's text */
+    ZEMBRUSHA_STRIP_TOO_SHORT = 18,  /* strip too short for the preview */
+    ZEMBRUSHA_NOT_THAT_PREVIEW = 19  /* the strip's front is not the preview of that line and cycle */
 };
 
 /* The kinds of watches. */
@@ -44,13 +46,15 @@ enum zembrusha_kind {
     ZEMBRUSHA_STEPS = 5           /* whole: the steps so far */
 };
 
-/* The largest degree, the longest page, how many partitions the largest degree has (the longest column), and as many
- * bytes as are enough for every session's text: its first six lines have fewer than 256 together, and each waiting line
- * has fewer than 72, since a partition has at most 31, sixteen ones and the commas between them. 256 + 4,096 * 72. */
+/* The largest degree, the longest page, how many partitions the largest degree has (the longest column), as many words
+ * as are enough for every preview, since a line of degree at most 16 has at most 16 hooks, and as many bytes as are
+ * enough for every session's text: its first six lines have fewer than 256 together, and each waiting line has fewer
+ * than 72, since a partition has at most 31, sixteen ones and the commas between them. 256 + 4,096 * 72. */
 enum zembrusha_limit {
     ZEMBRUSHA_DEGREE_LIMIT = 16,
     ZEMBRUSHA_PAGE_LIMIT = 4096,
     ZEMBRUSHA_LONGEST_COLUMN = 231,
+    ZEMBRUSHA_STRIP_ROOM = 16,
     ZEMBRUSHA_TEXT_ROOM = 295168
 };
 
@@ -148,17 +152,29 @@ struct zembrusha_number zembrusha_column(uint32_t class, int64_t *values, size_t
 
 /* ---- Sessions, on a page of 0 to 4,096 words that the caller lends. A waiting line is one word: bit 63 is set for a
  * minus sign, bits 62 to 32 are the shape word, bits 31 to 0 the class word. Slip and page are handed on together: an
- * older slip may pass as sound on a later page, and its sum is another. */
+ * older slip may pass as sound on a later page, and its sum is another. A step is two calls: a preview puts the new
+ * lines on a strip that the caller lends, and a commit takes that strip and finishes the step. */
 
 /* Opens a session: one line on the page, zeros after it (at degree 0 no line, and settled is 1). Refuses 1, 3, 2, 4, 5,
  * 6, 10, with a slip of zeros. */
 struct zembrusha_handed zembrusha_open(uint32_t shape, uint32_t class, uint64_t *page, size_t words);
 
-/* Strikes a cycle from a line, numbered from 0: the line is taken out, later lines move down, and one line for each
- * hook of that length is put at the end; a hook that leaves the empty shape adds its sign to settled instead. Refuses
- * 6, 7, 8, 9, 10, with the slip that was given. */
-struct zembrusha_handed zembrusha_step(
-    struct zembrusha_slip slip, uint64_t *page, size_t words, uint64_t line, uint64_t cycle);
+/* The new lines that a commit of this line, numbered from 0, and this cycle would put on the page, to the front of the
+ * strip, and their count; the rest of the strip stays. There is one for each hook of that length, in the order of the
+ * hooks; a hook that leaves the empty shape makes none. The strip may have any length, and ZEMBRUSHA_STRIP_ROOM words
+ * are always enough. Refuses 6, 7, 8, 9, 18. */
+struct zembrusha_number zembrusha_preview(
+    struct zembrusha_slip slip, const uint64_t *page, size_t words, uint64_t line, uint64_t cycle, uint64_t *strip,
+    size_t length);
+
+/* Strikes a cycle from a line, only where the strip's front is exactly their preview now: the line is taken out, later
+ * lines move down, and the new lines are put at the end; a hook that leaves the empty shape adds its sign to settled
+ * instead. The strip may have any length, and what stands behind its front is not looked at; where there is no new
+ * line, any strip will do. Refuses 6, 7, 8, 9, 19, 10, with the slip that was given. With the strip of an accepted
+ * preview of the same slip, page, line and cycle nothing but 10 refuses it. */
+struct zembrusha_handed zembrusha_commit(
+    struct zembrusha_slip slip, uint64_t *page, size_t words, uint64_t line, uint64_t cycle, const uint64_t *strip,
+    size_t length);
 
 /* What a watch of kind 1, 3, 4 or 5 shows; 0 for kind 2 and where it is refused. Kinds 3 to 5 ignore the line. Refuses
  * 6, 7, 15, 8. */

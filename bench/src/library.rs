@@ -29,7 +29,24 @@ pub struct Loaded {
 }
 
 extern "C" {
-    fn zembrusha_step(slip: Slip, page: *mut u64, words: usize, line: u64, cycle: u64) -> Handed;
+    fn zembrusha_preview(
+        slip: Slip,
+        page: *const u64,
+        words: usize,
+        line: u64,
+        cycle: u64,
+        strip: *mut u64,
+        length: usize,
+    ) -> Number;
+    fn zembrusha_commit(
+        slip: Slip,
+        page: *mut u64,
+        words: usize,
+        line: u64,
+        cycle: u64,
+        strip: *const u64,
+        length: usize,
+    ) -> Handed;
     fn zembrusha_watch_whole(slip: Slip, page: *const u64, words: usize, kind: u64, line: u64) -> i64;
     fn zembrusha_save(slip: Slip, page: *const u64, words: usize, text: *mut u8, length: usize) -> Number;
     fn zembrusha_load(text: *const u8, length: usize, page: *mut u64, words: usize) -> Loaded;
@@ -50,8 +67,15 @@ pub fn class_period(class: u32) -> i64 {
     unsafe { zembrusha_class_period(class) }
 }
 
-pub fn step(slip: Slip, page: &mut [u64], line: u64, cycle: u64) -> (u32, Slip) {
-    let handed = unsafe { zembrusha_step(slip, page.as_mut_ptr(), page.len(), line, cycle) };
+pub fn preview(slip: Slip, page: &[u64], line: u64, cycle: u64, strip: &mut [u64]) -> (u32, usize) {
+    let (to, length) = (strip.as_mut_ptr(), strip.len());
+    let answer = unsafe { zembrusha_preview(slip, page.as_ptr(), page.len(), line, cycle, to, length) };
+    (answer.refused, answer.number as usize)
+}
+
+pub fn commit(slip: Slip, page: &mut [u64], line: u64, cycle: u64, strip: &[u64]) -> (u32, Slip) {
+    let (from, length) = (strip.as_ptr(), strip.len());
+    let handed = unsafe { zembrusha_commit(slip, page.as_mut_ptr(), page.len(), line, cycle, from, length) };
     (handed.refused, handed.slip)
 }
 

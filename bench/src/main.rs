@@ -1,9 +1,11 @@
 // Times of the library beside its peers, in one run on one machine. `bench/run` builds and starts it.
 mod library;
+mod pages;
 mod periods;
 mod sessions;
 mod soundness;
 mod storing;
+mod strikes;
 mod text;
 mod twin;
 
@@ -127,9 +129,6 @@ fn main() {
     single_characters(&symmetrica);
     let words: Vec<u32> = (0..=16).flat_map(|n| partitions(n, n)).map(|parts| class_word(&parts)).collect();
     periods::times(|runs, work| best(runs, work), &words);
-    sessions::times(|runs, work| best(runs, work), shape_word, class_word);
-    let eights = partitions(8, 8);
-    let shapes: Vec<u32> = eights.iter().map(|parts| shape_word(parts)).collect();
-    let classes: Vec<u32> = eights.iter().map(|parts| class_word(parts)).collect();
-    storing::times(|runs, work| best(runs, work), &shapes, &classes, (shape_word(&[16]), class_word(&[16])));
+    sessions::times(|runs, work| best(runs, work));
+    storing::times(|runs, work| best(runs, work));
 }

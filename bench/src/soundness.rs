@@ -5,6 +5,10 @@ pub const PAGE_LIMIT: usize = 4096;
 
 const LIMIT: usize = 16;
 
+// The places in which words are remembered, and the number of lines from which on they are.
+const PLACES: usize = 257;
+const MANY: usize = 64;
+
 // d! and S(d) for the degrees 0 to 16.
 const FACTORIALS: [u64; LIMIT + 1] = table(false);
 const SPANS: [u64; LIMIT + 1] = table(true);
@@ -81,14 +85,31 @@ impl Budget {
     }
 }
 
+// A word's degree, 0 where it is refused: it is read only where its place does not have it.
+fn known(word: u32, places: &mut [u64; PLACES], read: fn(u32) -> Option<u32>) -> u32 {
+    let place = &mut places[word as usize % PLACES];
+    if *place / 32 != u64::from(word) {
+        *place = u64::from(word) * 32 + u64::from(read(word).unwrap_or(0));
+    }
+    (*place % 32) as u32
+}
+
+// Whether a budget has enough for the lines.
+fn enough(mut budget: Budget, lines: &[u64]) -> bool {
+    let shape = |line: u64| (line >> 32) as u32 % (1 << 31);
+    if lines.len() < MANY {
+        let degrees = |line: u64| shape_degree(shape(line)).zip(class_degree(line as u32));
+        return lines.iter().all(|&line| degrees(line).and_then(|(a, b)| budget.spend(a, b)).is_some());
+    }
+    let (mut shapes, mut classes) = ([0; PLACES], [0; PLACES]);
+    lines.iter().all(|&line| {
+        let degree = known(shape(line), &mut shapes, shape_degree);
+        budget.spend(degree, known(line as u32, &mut classes, class_degree)).is_some()
+    })
+}
+
 pub fn sound(slip: &Slip, page: &[u64]) -> bool {
-    let Some(mut budget) = Budget::of(slip) else { return false };
+    let Some(budget) = Budget::of(slip) else { return false };
     let lines = slip.lines as usize;
-    lines <= page.len()
-        && page[..lines].iter().all(|&line| {
-            let shape = shape_degree((line >> 32) as u32 % (1 << 31));
-            let class = class_degree(line as u32);
-            shape.zip(class).and_then(|(shape, class)| budget.spend(shape, class)).is_some()
-        })
-        && page[lines..].iter().all(|&word| word == 0)
+    lines <= page.len() && enough(budget, &page[..lines]) && page[lines..].iter().all(|&word| word == 0)
 }

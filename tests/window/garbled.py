@@ -13,19 +13,22 @@ ANSWERS = re.compile(rb'''refused\ [0-9]+:\ .*
     | \([0-9,]*\)\ on\ \([0-9,]*\):\ settled\ -?[0-9]+,\ steps\ [0-9]+\ of\ at\ most\ [0-9]+
     | line\ [0-9]+:\ [-+]\ \([0-9,]+\)\ on\ \([0-9,]+\),\ strike\ .*
     | no\ line\ waits:\ the\ character\ is\ -?[0-9]+
+    | would\ come:\ [-+]\ \([0-9,]+\)\ on\ \([0-9,]+\)
+    | no\ line\ would\ come
+    | would\ be\ added\ to\ settled:\ (-1|0|1)
     | sum\ of\ the\ waiting\ lines:\ -?[0-9]+
     | settled\ plus\ waiting:\ -?[0-9]+,\ unchanged\ since\ the\ (opening|load)
     | (not\ )?(saved|loaded):?\ .+
     | the\ character\ of\ \([0-9,]*\)\ on\ \([0-9,]*\)\ is\ -?[0-9]+
     | (class|\([0-9,]*\))\ .*
-    | (open|strike|lines|watch|save|load|character|table|help|quit|SHAPE|LINE|FILE)\ .*''', re.VERBOSE)
+    | (open|preview|strike|lines|watch|save|load|character|table|help|quit|SHAPE|LINE|FILE)\ .*''', re.VERBOSE)
 
 # The last command, and its answer: what is read to the end is answered to the end.
 LAST = b'\nopen 1 1\n'
 LAST_ANSWER = b'(1) on (1): settled 0, steps 0 of at most 1\nline 0: + (1) on (1), strike 1\n'
 
 # How often some answers are met at least.
-LEAST = {b'unchanged': 100, b'refused': 1000, b'\nsaved s\n': 50, b'\nloaded s\n': 50}
+LEAST = {b'unchanged': 100, b'refused': 1000, b'\nsaved s\n': 50, b'\nloaded s\n': 50, b'\nwould be added': 20}
 
 PARTITIONS = ['3,2', '2,2,1', '1,1,1,1,1', '4,1', '5', '0x2C000000', '0x14000000', '2,1', '1', '0x0', '6', '3,2,1']
 
@@ -34,8 +37,9 @@ def command(dice):
     """A command of its form, or nearly."""
     shape, cycles = dice.choice(PARTITIONS), dice.choice(PARTITIONS)
     strike = f'strike {dice.randrange(4)} {dice.randrange(6)}'
-    return dice.choice([f'open {shape} {cycles}', strike, strike, strike, 'lines', 'watch', 'save s', 'load s',
-                        f'character {shape} {cycles}', f'table {dice.randrange(7)}', 'help'])
+    preview = f'preview {dice.randrange(2)} {dice.randrange(4)}'
+    return dice.choice([f'open {shape} {cycles}', strike, strike, strike, preview, preview, 'lines', 'watch', 'save s',
+                        'load s', f'character {shape} {cycles}', f'table {dice.randrange(7)}', 'help'])
 
 
 def line(dice):

@@ -23,7 +23,7 @@ TYPES = NUMBERS | STRUCTS
 KINDS = ['LINE_CHARACTER', 'LINE_RATIO', 'SETTLED', 'WAITING', 'STEPS']
 CONSTANTS = {
     'kind': {name: number for number, name in enumerate(KINDS, 1)},
-    'limit': {'DEGREE_LIMIT': 16, 'PAGE_LIMIT': 4096, 'LONGEST_COLUMN': 231,
+    'limit': {'DEGREE_LIMIT': 16, 'PAGE_LIMIT': 4096, 'LONGEST_COLUMN': 231, 'STRIP_ROOM': 16,
               'TEXT_ROOM': 256 + 4096 * 72},
 }
 
@@ -34,6 +34,10 @@ CHANGES = [
     (r'int64_t zembrusha_degree\(', 'uint32_t zembrusha_degree('),
     (r'uint64_t kind, uint64_t line', 'uint64_t line, uint64_t kind'),
     (r'const uint64_t \*page', 'uint64_t *page'),
+    (r'uint64_t cycle, uint64_t \*strip', 'uint64_t cycle, const uint64_t *strip'),
+    (r'uint64_t cycle, const uint64_t \*strip', 'uint64_t cycle, uint64_t *strip'),
+    (r'uint64_t line, uint64_t cycle', 'uint64_t cycle, uint64_t line'),
+    (r'struct zembrusha_handed zembrusha_commit', 'struct zembrusha_number zembrusha_commit'),
     (r'int64_t \*values', 'uint64_t *values'),
     (r'double zembrusha_watch_ratio', 'int64_t zembrusha_watch_ratio'),
     (r'uint32_t zembrusha_conjugate\(uint32_t shape\);', ''),
@@ -155,7 +159,7 @@ def faults(header, archive, rust, rattle):
     if archive_names(archive) != set(ours.functions):
         yield f'archive: {sorted(archive_names(archive) ^ set(ours.functions))} on one side only'
     yield from (f'no comment over {name}' for name in commented(header))
-    if refusals(header) != list(range(18)):
+    if refusals(header) != list(range(20)):
         yield f'refusal numbers: {refusals(header)}'
     for kind, named in CONSTANTS.items():
         if constants(header, kind) != named:

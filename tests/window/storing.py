@@ -1,7 +1,8 @@
 #!/usr/bin/env python3
 """storing.py PROGRAM FAILING: sessions put away in files and taken up by another run of the window; texts that are
-refused; files that the system will not read or write, and what is left of them. FAILING is the window linked with
-failing.c. All files are in a temporary folder; where this runs as root, the window runs as somebody with fewer rights."""
+refused; a page that is full; files that the system will not read or write, and what is left of them. FAILING is the
+window linked with failing.c. All files are in a temporary folder; where this runs as root, the window runs as somebody
+with fewer rights."""
 import errno
 import os
 import resource
@@ -15,8 +16,8 @@ import tempfile
 NOBODY = 65534
 
 # A session by its commands, and its text after two of them: that of the request.
-COMMANDS = ['open 4,2,1 2,2,1,1,1', 'strike 0 1', 'strike 1 2', 'strike 0 2', 'watch', 'strike 2 1', 'strike 0 1',
-            'strike 0 2', 'watch']
+COMMANDS = ['open 4,2,1 2,2,1,1,1', 'strike 0 1', 'preview 1 2', 'strike 1 2', 'strike 0 2', 'watch', 'strike 2 1',
+            'strike 0 1', 'preview 0 1', 'strike 0 2', 'watch']
 BEGUN = ['open 3,2 3,2', 'strike 0 3']
 TEXT = 'degree=5\nshape=3,2\nclass=3,2\nsteps=1\nsettled=0\nlines=1\nline=-;1,1;2\n'
 OLD = 'what was there before\n'
@@ -24,7 +25,8 @@ OLD = 'what was there before\n'
 # What each line of a text has to be, as the window says it.
 FORMS = ["degree= and the shape's degree, without needless zeros", 'shape= and a partition of at most 16, as shape=3,2',
          'class= and a partition of at most 16, as class=3,2', 'steps= and a number below 2^63, without needless zeros',
-         'settled= and a number of 64 bits, without needless zeros and with a minus only where it is negative', 'lines= and the number of all lines after it, without needless zeros',
+         'settled= and a number of 64 bits, without needless zeros and with a minus only where it is negative',
+         'lines= and the number of all lines after it, without needless zeros',
          'line=, sign, and shape and class, partitions of at most 16, as line=-;1,1;2']
 
 
@@ -196,6 +198,25 @@ def take_up_others(desk):
          'a text that was changed')
 
 
+def fill_page(desk):
+    """On a full page a preview shows the lines of a strike that is refused by 10; both leave the session as it was."""
+    full = page_of(4095, 4096) + 'line=-;2,1;1,1,1\n'
+    desk.write('friday', full)
+    loaded, lines = ['load friday'], ['would come: - (1,1) on (1,1)', 'would come: - (2) on (1,1)']
+    stands = desk.after(loaded, ['lines'])
+    refusal = 'refused 10: the page has no room for so many lines'
+    same(desk.after(loaded, ['preview 4095 1', 'strike 4095 1', 'save friday']),
+         [*lines, f'a strike would be {refusal}', *stands, refusal, *stands, 'saved friday', *stands],
+         'a strike that has too little room')
+    same(desk.read('friday'), full, 'the text of a full page')
+    same(desk.after(loaded, ['preview 7 1']),
+         ['no line would come', 'would be added to settled: 1', *stands], 'a strike that needs no room')
+    room = [*loaded, 'strike 7 1']
+    same(desk.after(room, ['preview 4094 1'])[:3], [*lines, 'would be added to settled: 0'], 'just enough room')
+    same(desk.after(room, ['strike 4094 1'])[-2:],
+         ['line 4094: - (1,1) on (1,1), strike 1', 'line 4095: - (2) on (1,1), strike 1'], 'the last lines of a page')
+
+
 def refused_by_system(desk, command, words, **more):
     """A save or a load that the system refuses: it says so, the session goes on, and all files are as they were."""
     before = [(name, os.lstat(desk.path('desk', name))) for name in desk.files()]
@@ -259,7 +280,7 @@ def main():
     program, failing = sys.argv[1:]
     with tempfile.TemporaryDirectory() as folder:
         desk = Desk(folder, program, failing)
-        for part in [take_up, put_in_place, refuse_texts, take_up_others, refuse_files, fail]:
+        for part in [take_up, put_in_place, refuse_texts, take_up_others, fill_page, refuse_files, fail]:
             part(desk)
             desk.clear()
 

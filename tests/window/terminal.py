@@ -11,7 +11,7 @@ import time
 
 PROMPT = b'> '
 PATIENCE = 20
-TYPED = ['open 3,2 3,2', 'watch', 'strike 0 3', 'strike 0 3', '', 'x' * 1100, 'strike 0 2', 'watch']
+TYPED = ['open 3,2 3,2', 'watch', 'preview 0 3', 'strike 0 3', 'strike 0 3', '', 'x' * 1100, 'strike 0 2', 'watch']
 END_OF_INPUT = b'\x04'
 
 

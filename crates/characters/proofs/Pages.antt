@@ -1,15 +1,17 @@
 -- What the loops over a page do to it. A line is taken out step by step: to move the next line down and to take that
 -- one out is to take this one out.
-use mathlib.Core.Path.{_≡_, refl, _∙_, ap}
+use mathlib.Core.Path.{_≡_, refl, sym, _∙_, ap}
 use mathlib.Core.List.{append-nil}
 use Prim.Native.Nat.{_≤_, _<_}
 use native.Mathlib.Nat.{add-suc}
 use native.Mathlib.Numerals.{add-one}
 use native.Mathlib.Omega.{arith}
+use borrow.Author.Tests.{eq-eqb, ne-eqb}
 use lib.ListN.{set, length-append, length-drop, length-replicate, drop-of-length-le}
 use lib.Seq.{take-take, take-set-lt, take-suc-set, drop-set-lt, drop-cons, append-snoc, getD-take, set-split}
 use lib.Seq.{length-take-le, drop-length, take-at, drop-append-add, sets, sets-eq}
-use Rattle.theory.specs.Basics.{List, [], _∷_, _++_, length, getD, take, drop, replicate, ℕ, zero, suc, _+_, _-_}
+use Rattle.theory.specs.Basics.{Bool, true, false, List, [], _∷_, _++_, length, getD, take, drop, replicate, ℕ, zero, suc, _+_, _-_}
+use Rattle.theory.specs.Basics.{same}
 use Rattle.theory.specs.Basics.Laws.{Each}
 use Rattle.characters.specs.Private.Pages.{others, takenOut, Exchanges, exchanged}
 
@@ -66,6 +68,30 @@ put-word page strip at i l = rw (add-one i, add-suc at i, drop-cons strip i 0 l)
 
 pub put-last : (page strip : List ℕ) (at i : ℕ) → length strip ≤ i → page ≡ sets page (at + i) (drop i strip)
 put-last page strip at i l = rw (drop-of-length-le strip l)
+
+-- ---- a strip compared
+-- whether a strip begins with words, each from its own place on
+abbrev pub begins : List ℕ → List ℕ → Bool
+begins words strip = same words (take (length words) strip)
+
+module _ (words strip : List ℕ) (i : ℕ) where
+  module _ (more : i < length words) where
+    pub ends-before : length strip ≤ i → begins (drop i words) (drop i strip) ≡ false
+    ends-before short = rw (drop-of-length-le strip short, drop-cons words i 0 more) refl
+
+    module _ (there : i < length strip) where
+      pub differs : (getD strip i 0 ≡ getD words i 0 → ⊥) → begins (drop i words) (drop i strip) ≡ false
+      differs n =
+          rw (drop-cons words i 0 more, drop-cons strip i 0 there, ne-eqb (getD words i 0) (getD strip i 0) (λ e. n (sym e))) refl
+
+      pub agrees : getD strip i 0 ≡ getD words i 0
+          → begins (drop (i + 1) words) (drop (i + 1) strip) ≡ begins (drop i words) (drop i strip)
+      agrees e =
+          rw (add-one i, drop-cons words i 0 more, drop-cons strip i 0 there, eq-eqb (getD words i 0) (getD strip i 0) (sym e))
+          refl
+
+  pub all-agree : length words ≤ i → begins (drop i words) (drop i strip) ≡ true
+  all-agree l = rw (drop-of-length-le words l) refl
 
 -- ---- a line exchanged for a strip
 module _ (page : List ℕ) (line lines : ℕ) (strip : List ℕ) (e : Exchanges page line lines strip) where

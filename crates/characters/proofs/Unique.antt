@@ -5,14 +5,15 @@ use Rattle.theory.specs.Limits.{degreeLimit}
 use Rattle.words.specs.Answers.Laws.{one-outcome}
 use Rattle.characters.specs.Calls.{columnInto}
 use Rattle.characters.specs.Opening.{opening}
-use Rattle.characters.specs.Step.{step}
+use Rattle.characters.specs.Step.{preview, commit}
 use Rattle.characters.specs.Watch.Answers.{one-answer}
 use Rattle.characters.proofs.character.Reads as character
 use Rattle.characters.proofs.character_degree.Reads as character-degree
 use Rattle.characters.proofs.column.Reads as column
 use Rattle.characters.proofs.sessions.open.Reads as open-session
 use Rattle.characters.proofs.sessions.page_refusal.Reads as page-refusal
-use Rattle.characters.proofs.sessions.step.Reads as step-session
+use Rattle.characters.proofs.sessions.preview.Reads as preview-session
+use Rattle.characters.proofs.sessions.commit.Reads as commit-session
 use Rattle.characters.proofs.sessions.watch.Reads as watch-session
 
 -- ---- characters
@@ -37,10 +38,16 @@ pub page-refusal-once : (κs : _) (a : _) (r r′ : _) (s s′ : _) → page-ref
     → page-refusal.Post κs a r′ s′ → r ≡ r′
 page-refusal-once κs a r r′ s s′ p q = p ∙ sym q
 
-pub step-once : (κs : _) (a : _) (r r′ : _) (s s′ : _) → step-session.Post κs a r s → step-session.Post κs a r′ s′
-    → (r ≡ r′) × (now (s .1 .0) ≡ now (s′ .1 .0))
-step-once κs a r r′ s s′ p q =
-    one-outcome (step degreeLimit (a .0) (now (a .1 .0)) (a .1 .1 .0) (a .1 .1 .1 .0)) p q
+pub preview-once : (κs : _) (a : _) (r r′ : _) (s s′ : _) → preview-session.Post κs a r s
+    → preview-session.Post κs a r′ s′ → (r ≡ r′) × (now (s .1 .1 .1 .1 .0) ≡ now (s′ .1 .1 .1 .1 .0))
+preview-once κs a r r′ s s′ p q =
+    one-outcome
+    (preview degreeLimit (a .0) (now (a .1 .0)) (a .1 .1 .0) (a .1 .1 .1 .0) (now (a .1 .1 .1 .1 .0))) p q
+
+pub commit-once : (κs : _) (a : _) (r r′ : _) (s s′ : _) → commit-session.Post κs a r s
+    → commit-session.Post κs a r′ s′ → (r ≡ r′) × (now (s .1 .0) ≡ now (s′ .1 .0))
+commit-once κs a r r′ s s′ p q =
+    one-outcome (commit degreeLimit (a .0) (now (a .1 .0)) (a .1 .1 .0) (a .1 .1 .1 .0) (now (a .1 .1 .1 .1 .0))) p q
 
 pub watch-once : (κs : _) (a : _) (r r′ : _) (s s′ : _) → watch-session.Post κs a r s → watch-session.Post κs a r′ s′
     → r ≡ r′

@@ -1,6 +1,7 @@
 -- Examples to prove (document 01, "Examples to prove", E1 to E13): one table, and one theorem, by computation.
 --   on-sevens s c            the opening of s on c, on a page of two words that hold 7
---   strike cycle outcome     a step on line 0, the latest slip and page handed on
+--   seen cycle outcome       a preview of line 0, on a strip of two words that hold 7
+--   strike cycle outcome     this preview and its commit, the latest slip and page handed on
 --   after s c z l n page     accepted: settled z, l lines, n steps, and this page
 use mathlib.Core.Path.{_≡_}
 use Rattle.theory.specs.Basics.{List, [], _∷_, replicate, ℕ, ℤ, pos, negsuc}
@@ -9,16 +10,21 @@ use Rattle.theory.specs.ShapeWord.{shapeWord, shapeOf}
 use Rattle.theory.specs.ClassWord.{classWord, classOf}
 use Rattle.theory.specs.Refusals.{firstOf, shapeChecks, classChecks}
 use Rattle.theory.specs.Limits.{degreeLimit}
+use Rattle.words.specs.declared.CountAnswer.{CountAnswer}
+use Rattle.words.specs.Answers.{countAnswer}
 use Rattle.pages.specs.Page.{slipOf}
 use Rattle.characters.specs.Opening.{handed, opening, Handed}
-use Rattle.characters.specs.Step.{step}
+use Rattle.characters.specs.Step.{preview, commit}
 pub mod Proved
 
 abbrev on-sevens : List ℕ → List ℕ → Handed × List ℕ
 on-sevens s c = opening degreeLimit (shapeWord s) (classWord c) (7 ∷ 7 ∷ [])
 
+abbrev seen : ℕ → Handed × List ℕ → CountAnswer × List ℕ
+seen cycle o = preview degreeLimit (o .0 .slip) (o .1) 0 cycle (7 ∷ 7 ∷ [])
+
 abbrev strike : ℕ → Handed × List ℕ → Handed × List ℕ
-strike cycle o = step degreeLimit (o .0 .slip) (o .1) 0 cycle
+strike cycle o = commit degreeLimit (o .0 .slip) (o .1) 0 cycle (seen cycle o .1)
 
 abbrev after : List ℕ → List ℕ → ℤ → ℕ → ℤ → List ℕ → Handed × List ℕ
 after s c settled lines steps page = (handed 0 (slipOf (shapeWord s) (classWord c) settled lines steps), page)
@@ -44,13 +50,17 @@ pub record Examples : Type 0 where
   pub E10 : parts-3-2 on replicate 5 1 ≡ pos 5
   pub E11 : on-sevens parts-3-2 parts-3-2
       ≡ after parts-3-2 parts-3-2 (pos 0) 1 (pos 0) (0x2C00000014000000 ∷ 0 ∷ [])
+  pub E11-seen : seen 3 (on-sevens parts-3-2 parts-3-2) ≡ (countAnswer 0 1, 0x9000000020000000 ∷ 7 ∷ [])
   pub E11-3 : strike 3 (on-sevens parts-3-2 parts-3-2)
       ≡ after parts-3-2 parts-3-2 (pos 0) 1 (pos 1) (0x9000000020000000 ∷ 0 ∷ [])
   pub E11-3-2 : strike 2 (strike 3 (on-sevens parts-3-2 parts-3-2))
       ≡ after parts-3-2 parts-3-2 (pos 1) 0 (pos 2) (0 ∷ 0 ∷ [])
+  pub E11-3-seen : seen 2 (strike 3 (on-sevens parts-3-2 parts-3-2)) ≡ (countAnswer 0 0, 7 ∷ 7 ∷ [])
+  pub E12-seen : seen 2 (on-sevens parts-3-2 parts-3-2) ≡ (countAnswer 0 1, 0x3800000010000000 ∷ 7 ∷ [])
   pub E12-2 : strike 2 (on-sevens parts-3-2 parts-3-2)
       ≡ after parts-3-2 parts-3-2 (pos 0) 1 (pos 1) (0x3800000010000000 ∷ 0 ∷ [])
   pub E12-2-3 : strike 3 (strike 2 (on-sevens parts-3-2 parts-3-2))
       ≡ after parts-3-2 parts-3-2 (pos 1) 0 (pos 2) (0 ∷ 0 ∷ [])
+  pub E13-seen : seen 2 (on-sevens parts-2-1 parts-2-1) ≡ (countAnswer 0 0, 7 ∷ 7 ∷ [])
   pub E13 : strike 2 (on-sevens parts-2-1 parts-2-1)
       ≡ after parts-2-1 parts-2-1 (pos 0) 0 (pos 1) (0 ∷ 0 ∷ [])

@@ -6,3 +6,4 @@ pub mod Columns
 pub mod Striking
 pub mod Pages
 pub mod ClassLeft
+pub mod Struck

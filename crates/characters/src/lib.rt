@@ -1,5 +1,6 @@
 // The calculator: characters of the symmetric group, columns of the character table, and sessions that are opened,
-// stepped and watched. Every call takes every input; a refused word or number is 0, a refused call writes nothing.
+// previewed, committed and watched. Every call takes every input; a refused word or number is 0, a refused call writes
+// nothing.
 ghost use mathlib.Core.Path.{_≡_};
 ghost use Prim.Native.Nat.{_≤_};
 ghost use Rattle.theory.specs.Basics.{replicate};

@@ -2,7 +2,7 @@
 ghost use mathlib.Core.Path.{_≡_};
 ghost use Prim.Native.Nat.{_+_, _<_, _≤_};
 ghost use lib.Seq.{sets};
-ghost use Rattle.theory.specs.Basics.{length, replicate};
+ghost use Rattle.theory.specs.Basics.{length, take, replicate, same};
 ghost use Rattle.characters.specs.Private.Pages.{Exchanges, exchanged, takenOut};
 
 // Every word becomes 0.
@@ -30,7 +30,7 @@ fn take_out(page: &mut [u64], line: usize, lines: usize)
 }
 
 // A strip of lines is put at a place that has room for them.
-fn write_strip(page: &mut [u64], at: usize, strip: &[u64])
+pub fn write_strip(page: &mut [u64], at: usize, strip: &[u64])
     requires { ⌜ at + length (now strip) ≤ length (now page) ⌝ }
     ensures { λ _. ⌜ now (page .exit) ≡ sets (now (page .entry)) at (now (strip .entry)) ⌝ }
 {
@@ -39,6 +39,23 @@ fn write_strip(page: &mut [u64], at: usize, strip: &[u64])
         page[at + i] = strip[i];
         i += 1;
     }
+}
+
+// Whether a strip begins with these words.
+pub fn begins(strip: &[u64], words: &[u64]) -> bool
+    ensures { λ r. ⌜ r ≡ same (now (words .entry)) (take (length (now (words .entry))) (now (strip .entry))) ⌝ }
+{
+    let mut i = 0;
+    while i < words.len() {
+        if strip.len() <= i {
+            return false; // it ends before them
+        }
+        if strip[i] != words[i] {
+            return false;
+        }
+        i += 1;
+    }
+    true
 }
 
 // A line of a page whose other words are 0 is taken out, and a strip of lines is put at the end of the others.

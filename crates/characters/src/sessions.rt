@@ -1,9 +1,10 @@
-// Sessions (document 01, "Slip and page", "Watches"): opened, stepped and watched over a lent page. Everything is read
-// before the first word is written, and a refused call writes nothing.
+// Sessions (document 01, "Slip and page", "Watches"; document 02, P3): opened, previewed, committed and watched over a
+// lent page. Everything is read before the first word is written, and a refused call writes nothing.
 ghost use mathlib.Core.Path.{_≡_};
 ghost use Prim.Native.Nat.{_+_, _≤_, _<_, _^_};
 ghost use lib.IntN.{pos, _+ℤ_, natAbs};
 ghost use lib.Ieee.{binary64, ofInt, div};
+ghost use Rattle.theory.specs.Basics.{not, [], _∷_, length};
 ghost use Rattle.theory.specs.Refusals.{firstOf};
 ghost use Rattle.theory.specs.Limits.{degreeLimit};
 ghost use Rattle.words.specs.Answers.{Outcome};
@@ -11,9 +12,10 @@ ghost use Rattle.pages.specs.Page.{lineOf, slipOf, blank};
 ghost use Rattle.pages.specs.Sound.{pageChecks};
 ghost use Rattle.pages.specs.Sound.Laws.{SoundLine};
 ghost use Rattle.characters.specs.Opening.{handed, opening};
-ghost use Rattle.characters.specs.Step.{step as stepOf};
+ghost use Rattle.characters.specs.Step.{preview as previewOf, commit as commitOf};
 ghost use Rattle.characters.specs.Watch.{reads, ratio as ratioOf, watchChecks, watch as watchOf};
 ghost use Rattle.characters.specs.Private.ClassLeft.{classLeftOf};
+ghost use Rattle.characters.specs.Private.Struck.{struckOnto};
 use super::Handed;
 use super::Watched;
 use super::character_degree;
@@ -24,12 +26,21 @@ use pages::PAGE_LIMIT;
 use pages::Slip;
 use pages::pairs;
 use pages::soundness;
+use words::CountAnswer;
 
 // What is left of the class of a line that is named: why line and cycle are refused, or the class word without the
 // cycle.
 struct ClassLeft {
     refused: u8,
     class: u32,
+}
+
+// What comes of a line that is struck: why line and cycle are refused, or how many of its hook lines wait, and the sum
+// of the signs of the others.
+struct Struck {
+    refused: u8,
+    count: usize,
+    settled: i64,
 }
 
 // A refused opening.
@@ -124,6 +135,28 @@ fn class_left(slip: Slip, page: &[u64], line: usize, cycle: u64) -> ClassLeft
     }
 }
 
+// Strikes a named cycle from a named line, on a strip of as many words as there can be hook lines. Refuses 6, 7, 8, 9.
+fn strike(slip: Slip, page: &[u64], line: usize, cycle: u64, strip: &mut [u64]) -> Struck
+    requires { ⌜ length (now strip) ≡ degreeLimit ⌝ }
+    ensures { λ r. ⌜ Outcome (struckOnto degreeLimit slip (now (page .entry)) line cycle (now (strip .entry)))
+        r (now (strip .exit)) ⌝ }
+{
+    let named = class_left(slip, page, line, cycle);
+    if named.refused != 0 {
+        return Struck {
+            refused: named.refused,
+            count: 0,
+            settled: 0,
+        };
+    }
+    let hooks = lines::strip(page[line], cycle as u32, named.class, strip);
+    Struck {
+        refused: 0,
+        count: hooks.count,
+        settled: hooks.settled,
+    }
+}
+
 // The slip after a step that settles a sum and leaves so many lines.
 fn next_slip(slip: Slip, settled: i64, lines: usize) -> Slip
     requires { ⌜ (natAbs (slip .settled) + natAbs settled < 2 ^ 63) × (natAbs (slip .steps) + 1 < 2 ^ 63) ⌝ }
@@ -138,28 +171,63 @@ fn next_slip(slip: Slip, settled: i64, lines: usize) -> Slip
     }
 }
 
-// Strikes a cycle from a line: the line is taken out, later lines move down, and its hook lines come at the end.
-// Refuses 6, 7, 8, 9, 10.
-pub fn step(slip: Slip, page: &mut [u64], line: usize, cycle: u64) -> Handed
-    ensures { λ r. ⌜ Outcome (stepOf degreeLimit slip (now (page .entry)) line cycle) r (now (page .exit)) ⌝ }
+// The new lines of a named line and cycle, in hook order and as a commit puts them on the page, to the front of a strip;
+// their count is the answer, and the rest of the strip stays. Refuses 6, 7, 8, 9, then 18.
+pub fn preview(slip: Slip, page: &[u64], line: usize, cycle: u64, strip: &mut [u64]) -> CountAnswer
+    ensures { λ r. ⌜ Outcome (previewOf degreeLimit slip (now (page .entry)) line cycle (now (strip .entry)))
+        r (now (strip .exit)) ⌝ }
 {
-    let named = class_left(slip, &page[..], line, cycle);
-    if named.refused != 0 {
+    let mut new = [0u64; words::LIMIT as usize];
+    let hooks = strike(slip, page, line, cycle, &mut new);
+    if hooks.refused != 0 {
+        return CountAnswer {
+            refused: hooks.refused,
+            count: 0,
+        };
+    }
+    let count = hooks.count;
+    if strip.len() < count {
+        return CountAnswer {
+            refused: 18,
+            count: 0,
+        };
+    }
+    page::write_strip(strip, 0, &new[..count]);
+    CountAnswer { refused: 0, count }
+}
+
+// Why a commit of a line and a cycle that are not refused is refused, 0 where it is not: 19, then 10.
+fn last_refusal(fits: bool, full: bool) -> u8
+    ensures { λ r. ⌜ r ≡ firstOf ((not fits, 19) ∷ (full, 10) ∷ []) ⌝ }
+{
+    if fits { if full { 10 } else { 0 } } else { 19 }
+}
+
+// Finishes a step whose preview the front of the strip is: the line is taken out, later lines move down, and its hook
+// lines that wait come at the end. Refuses 6, 7, 8, 9, then 19, 10.
+pub fn commit(slip: Slip, page: &mut [u64], line: usize, cycle: u64, strip: &[u64]) -> Handed
+    ensures { λ r. ⌜ Outcome (commitOf degreeLimit slip (now (page .entry)) line cycle (now (strip .entry)))
+        r (now (page .exit)) ⌝ }
+{
+    let mut new = [0u64; words::LIMIT as usize];
+    let hooks = strike(slip, &page[..], line, cycle, &mut new);
+    if hooks.refused != 0 {
         return Handed {
-            refused: named.refused,
+            refused: hooks.refused,
             slip,
         };
     }
-    // a line of degree 16 at most has 16 hooks at most
-    let mut strip = [0u64; words::LIMIT as usize];
-    let hooks = lines::strip(page[line], cycle as u32, named.class, &mut strip);
-    let waiting = hooks.count;
+    let count = hooks.count;
     let lines = slip.lines;
-    let after = lines - 1 + waiting;
-    if page.len() < after {
-        return Handed { refused: 10, slip };
+    let after = lines - 1 + count;
+    let last = last_refusal(page::begins(strip, &new[..count]), page.len() < after);
+    if last != 0 {
+        return Handed {
+            refused: last,
+            slip,
+        };
     }
-    page::exchange(page, line, lines, &strip[..waiting]);
+    page::exchange(page, line, lines, &new[..count]);
     Handed {
         refused: 0,
         slip: next_slip(slip, hooks.settled, after),

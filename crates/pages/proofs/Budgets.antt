@@ -1,7 +1,6 @@
 -- Two budgets that fall as the words of a page are read: what one word does to them, and what they are at first.
---   having b value span   the budget b with so much left of both
---   Sized n l d           the line l is sound and has the degree d
-use mathlib.Core.Path.{_≡_, refl, sym, _∙_, ap}
+use mathlib.Core.Path.{_≡_, refl, sym, _∙_}
+use mathlib.Core.Bool.{false≢true}
 use Prim.Native.Nat.{min, _≤_, _<_}
 use native.Mathlib.Numerals.{add-one}
 use native.Mathlib.Omega.{arith}
@@ -9,24 +8,20 @@ use borrow.Author.Tests.{le-leb, lt-leb, eq-eqb, ne-eqb}
 use lib.ListN.{drop-of-length-le}
 use lib.Seq.{drop-cons}
 use lib.Signed.{nonNeg}
-use Rattle.theory.specs.Basics.{Bool, true, false, cond, _&&_, List, map, length, getD, drop, ℕ, suc, _+_, _-_, natAbs}
+use Rattle.theory.specs.Basics.{Bool, true, false, cond, _&&_, List, map, length, getD, drop, ℕ, _+_, _-_, natAbs, _≤?_}
 use Rattle.theory.specs.Basics.Laws.{both}
 use Rattle.theory.specs.Bounds.{factorial, S}
 use Rattle.theory.specs.Refusals.{firstOf, pairChecks}
 use Rattle.pages.specs.Line.{Line, lineDegree}
 use Rattle.pages.specs.Page.{lineOf, Slip}
-use Rattle.pages.specs.Sound.{soundLine, lineValue}
+use Rattle.pages.specs.Sound.{soundLine}
 use Rattle.pages.specs.Sound.Laws.{sound-line, asked}
 use Rattle.pages.specs.Budget.{left, overspent, budgetOf, spentOn, spentAll, Budget}
-use Rattle.pages.specs.Budget.Laws.{overspent-stays, pays, spent-by}
-use Rattle.pages.specs.Private.Degrees.{soundDegree, mostDegree}
+use Rattle.pages.specs.Budget.Laws.{overspent-stays}
+use Rattle.pages.specs.Private.Degrees.{soundDegree, mostDegree, paidFor}
 use Rattle.pages.proofs.SoundLines.{word-value}
 
 -- ---- a sound degree
-record Sized (n : ℕ) (l : Line) (d : ℕ) : Type 0 where
-  sound : soundLine n l ≡ true
-  degree : d ≡ lineDegree l
-
 module _ (n : ℕ) (l : Line) (d : ℕ) (e : d ≡ soundDegree n l) where
   by-soundness : (P : Type 0) → (soundLine n l ≡ true → d ≡ lineDegree l → P) → (soundLine n l ≡ false → d ≡ 0 → P) → P
   unfolding soundDegree
@@ -35,13 +30,6 @@ module _ (n : ℕ) (l : Line) (d : ℕ) (e : d ≡ soundDegree n l) where
       go : (b : Bool) → soundLine n l ≡ b → d ≡ cond b (lineDegree l) 0 → P
       go true t q = good t q
       go false t q = bad t q
-
-  sized : (d ≡ 0 → ⊥) → Sized n l d
-  sized some = by-soundness (Sized n l d) (λ t q. record { sound = t; degree = q }) (λ t q. absurd (some q))
-
-  unsound : d ≡ 0 → soundLine n l ≡ false
-  unsound none =
-      by-soundness (soundLine n l ≡ false) (λ t q. absurd (omega (arith, sound-line n l t .some))) (λ t q. t)
 
   pub sound-small : d ≤ n
   sound-small = by-soundness (d ≤ n) (λ t q. omega (arith, sound-line n l t .within)) (λ t q. omega arith)
@@ -70,65 +58,62 @@ two-tests limit b l = go (b .enough)
     go true = refl
     go false = none (soundLine 0 l) refl
 
-abbrev pub having : Budget → ℕ → ℕ → Budget
-having b value span = record { enough = b .enough; degree = b .degree; value = value; span = span }
+-- ---- a line's degree tells what the line leaves
+module _ (limit : ℕ) (b : Budget) (x d : ℕ) (e : d ≡ soundDegree (mostDegree limit b) (lineOf x)) where
+  paid-is : paidFor d b ≡ spentOn limit b (lineOf x)
+  unfolding paidFor spentOn
+  paid-is =
+      by-soundness (mostDegree limit b) (lineOf x) d e (paidFor d b ≡ spentOn limit b (lineOf x))
+      (λ t q.
+      let tests = both (b .enough) (soundLine (min (b .degree) limit) (lineOf x)) (two-tests limit b (lineOf x) ∙ t) in
+      let some = sound-line _ (lineOf x) t .some in
+      rw (tests .0, tests .1, word-value x, q, le-leb 1 (lineDegree (lineOf x)) some))
+      (λ t q. rw (two-tests limit b (lineOf x), t, q))
 
--- ---- the word at place i
-module _ (limit : ℕ) (b : Budget) (value span : ℕ) (xs : List ℕ) (i : ℕ) (h : i < length xs) (d : ℕ)
-    (e : d ≡ soundDegree (mostDegree limit b) (lineOf (getD xs i 0))) where
-  abbrev l : Line
-  l = lineOf (getD xs i 0)
+-- ---- once overspent, it stays so
+pub paid-stays : (limit d : ℕ) (b c : Budget) (lines : List Line) → c ≡ paidFor d b → c .enough ≡ false
+    → c ≡ spentAll limit c lines
+unfolding paidFor
+paid-stays limit d b c lines e = rw e (go (1 ≤? d && factorial d ≤? b .value && S d ≤? b .span))
+  where
+    after : Bool → Budget
+    after t = cond t (left (b .degree) (b .value - factorial d) (b .span - S d)) overspent
 
-  abbrev left-now : Budget
-  left-now = spentAll limit (having b value span) (map lineOf (drop i xs))
+    go : (t : Bool) → after t .enough ≡ false → after t ≡ spentAll limit (after t) lines
+    go true n = absurd (false≢true (sym n))
+    go false n = sym (overspent-stays limit lines)
 
-  abbrev after : Budget → Budget
-  after c = spentAll limit c (map lineOf (drop (suc i) xs))
+-- ---- paying, test by test
+module _ (d : ℕ) (b : Budget) where
+  pub no-line : d ≡ 0 → overspent ≡ paidFor d b
+  unfolding paidFor
+  no-line none = rw none
 
-  taken : left-now ≡ after (spentOn limit (having b value span) l)
-  unfolding spentAll
-  taken = rw (drop-cons xs i 0 h)
+  module _ (some : d ≡ 0 → ⊥) (value : ℕ) (cost : value ≡ factorial d) where
+    is-some : 1 ≤? d ≡ true
+    is-some = le-leb 1 d (omega arith)
 
-  -- a line that is not to be had
-  stopped : (t : Bool) → soundLine (mostDegree limit b) l ≡ t → pays limit (having b value span) l t ≡ false
-      → overspent ≡ left-now
-  stopped t e f =
-      sym
-      (taken ∙ ap after (spent-by limit (having b value span) l t false (two-tests limit b l ∙ e) f)
-      ∙ overspent-stays limit (map lineOf (drop (suc i) xs)))
+    pub too-dear : b .value < value → overspent ≡ paidFor d b
+    unfolding paidFor
+    too-dear short = rw (is-some, ← cost, lt-leb value (b .value) short)
 
-  pub not-a-line : d ≡ 0 → overspent ≡ left-now
-  not-a-line none = stopped false (unsound _ l d e none) refl
+    module _ (paid : value ≤ b .value) (span : ℕ) (steps : span ≡ S d) where
+      pub too-long : b .span < span → overspent ≡ paidFor d b
+      unfolding paidFor
+      too-long short = rw (is-some, ← cost, ← steps, le-leb value (b .value) paid, lt-leb span (b .span) short)
 
-  module _ (some : d ≡ 0 → ⊥) (f : ℕ) (cost : f ≡ factorial d) where
-    is-sized : Sized (mostDegree limit b) l d
-    is-sized = sized _ l d e some
+      pub all-paid : span ≤ b .span → left (b .degree) (b .value - value) (b .span - span) ≡ paidFor d b
+      unfolding paidFor
+      all-paid lasts = rw (is-some, ← cost, ← steps, le-leb value (b .value) paid, le-leb span (b .span) lasts)
 
-    its-value : lineValue l ≡ f
-    its-value = word-value (getD xs i 0) ∙ sym (cost ∙ ap factorial (is-sized .degree))
-
-    pub too-dear : value < f → overspent ≡ left-now
-    too-dear short = stopped true (is-sized .sound) (rw (its-value, lt-leb f value short))
-
-    module _ (paid : f ≤ value) (m : ℕ) (steps : m ≡ S d) where
-      its-span : S (lineDegree l) ≡ m
-      its-span = sym (steps ∙ ap S (is-sized .degree))
-
-      pub too-long : span < m → overspent ≡ left-now
-      too-long short =
-          stopped true (is-sized .sound) (rw (its-value, le-leb f value paid, its-span, lt-leb m span short))
-
-      pub spent-next : m ≤ span
-          → spentAll limit (having b (value - f) (span - m)) (map lineOf (drop (i + 1) xs)) ≡ left-now
-      spent-next lasts =
-          let tests = two-tests limit b l ∙ is-sized .sound in
-          let enough : b .enough ≡ true = both (b .enough) _ tests .0 in
-          let pays-all : pays limit (having b value span) l true ≡ true =
-          rw (its-value, le-leb f value paid, its-span, le-leb m span lasts) in
-          rw (add-one i)
-          (sym
-          (taken ∙ ap after (spent-by limit (having b value span) l true true tests pays-all)
-          ∙ rw (its-value, its-span, enough)))
+-- ---- from line to line
+pub spent-next : (limit : ℕ) (b c : Budget) (xs : List ℕ) (i d : ℕ) → i < length xs
+    → d ≡ soundDegree (mostDegree limit b) (lineOf (getD xs i 0)) → c ≡ paidFor d b
+    → spentAll limit c (map lineOf (drop (i + 1) xs)) ≡ spentAll limit b (map lineOf (drop i xs))
+unfolding spentAll
+spent-next limit b c xs i d h e is =
+    let on-it : c ≡ spentOn limit b (lineOf (getD xs i 0)) = is ∙ paid-is limit b (getD xs i 0) d e in
+    rw (on-it, add-one i, drop-cons xs i 0 h)
 
 pub spent-end : (limit : ℕ) (b : Budget) (xs : List ℕ) (i : ℕ) → length xs ≤ i
     → b ≡ spentAll limit b (map lineOf (drop i xs))

@@ -1,5 +1,5 @@
--- Sound lines, as the code meets them: from the common degree of a line's two words to its own.
-use mathlib.Core.Path.{_≡_, refl, sym, _∙_, ap}
+-- Sound lines, as the code meets them: from the degrees of a line's two words to its own.
+use mathlib.Core.Path.{_≡_, refl, sym, _∙_}
 use Prim.Native.Nat.{_≤_, _<_}
 use native.Mathlib.Nat.{one-mul}
 use native.Mathlib.Decide.{ℕ-discrete}
@@ -8,16 +8,14 @@ use Rattle.theory.specs.Basics.{Bool, true, false, cond, ℕ}
 use Rattle.theory.specs.ShapeWord.Good.{good-shape, shape-good}
 use Rattle.theory.specs.ClassWord.Laws.{good-class, class-good}
 use Rattle.theory.specs.Bounds.{factorial}
-use Rattle.theory.specs.Refusals.{firstOf, pairChecks}
-use Rattle.theory.specs.Refusals.Laws.{or-refused, or-given, matched, pair-passes}
-use Rattle.pages.specs.declared.pairs.CommonDegree.{CommonDegree}
+use Rattle.theory.specs.Refusals.Laws.{Within, WithinClass}
 use Rattle.pages.specs.Line.{Line, lineDegree}
 use Rattle.pages.specs.Page.{lineOf}
 use Rattle.pages.specs.Page.Words.{unit-weight}
 use Rattle.pages.specs.Sound.{soundLine, lineValue}
 use Rattle.pages.specs.Sound.Laws.{SoundLine, sound-line, line-sound}
-use Rattle.pages.specs.Pairs.{commonDegree, degreeOfBoth}
-use Rattle.pages.specs.Private.Degrees.{soundDegree}
+use Rattle.pages.specs.Private.Degrees.{soundDegree, wordDegree}
+use Rattle.pages.proofs.WordDegrees.{shape-degree-is, class-degree-is, shape-degree-some, class-degree-some}
 
 -- ---- the degree
 module _ (n : ℕ) (l : Line) where
@@ -33,47 +31,42 @@ module _ (n : ℕ) (l : Line) where
       go true e = absurd (bad (sound-line n l e))
       go false e = refl
 
-  module _ (limit : ℕ) (small : n ≤ limit) (j : CommonDegree) (e : j ≡ degreeOfBoth limit (l .shape) (l .class)) where
-    abbrev first : ℕ
-    first = firstOf (pairChecks limit (l .shape) (l .class))
+  -- the degrees of its two words
+  module _ (limit : ℕ) (small : n ≤ limit) (d e : ℕ) (of-shape : d ≡ wordDegree limit false (l .shape))
+      (of-class : e ≡ wordDegree limit true (l .class)) where
+    both-are : SoundLine n l → (d ≡ lineDegree l) × (e ≡ lineDegree l)
+    both-are s =
+        let shape : Within limit (l .shape) = record {
+          good = good-shape (l .shape) (s .shape);
+          small = omega (arith, s .within);
+        } in
+        let class : WithinClass limit (l .class) = record {
+          good = good-class (l .class) (s .class);
+          small = omega (arith, s .within, s .degrees);
+        } in
+        (of-shape ∙ shape-degree-is shape, of-class ∙ class-degree-is class ∙ sym (s .degrees))
 
-    -- no check refuses the words of a sound line
-    words-pass : SoundLine n l → first ≡ 0
-    words-pass s =
-        pair-passes
-        (record {
-          shape = record { good = good-shape (l .shape) (s .shape); small = omega (arith, s .within) };
-          class = record { good = good-class (l .class) (s .class); small = omega (arith, s .within, s .degrees) };
-          degrees = s .degrees;
-        })
+    pub degree-above : n < d → 0 ≡ soundDegree n l
+    degree-above above = sym (no-degree (λ s. omega (arith, both-are s .0, s .within)))
 
-    common : first ≡ 0 → j .degree ≡ lineDegree l
-    unfolding degreeOfBoth
-    common none = ap (λ (k : CommonDegree). k .degree) (e ∙ or-given (λ k. commonDegree k 0) _ _ none)
+    pub degrees-differ : (d ≡ e → ⊥) → 0 ≡ soundDegree n l
+    degrees-differ differ = sym (no-degree (λ s. differ (both-are s .0 ∙ sym (both-are s .1))))
 
-    uncommon : (first ≡ 0 → ⊥) → j .degree ≡ 0
-    unfolding degreeOfBoth
-    uncommon some = ap (λ (k : CommonDegree). k .degree) (e ∙ or-refused (λ k. commonDegree k 0) _ _ some)
-
-    pub degree-above : n < j .degree → 0 ≡ soundDegree n l
-    degree-above above = sym (no-degree (λ s. omega (arith, common (words-pass s), s .within)))
-
-    pub degree-within : j .degree ≤ n → j .degree ≡ soundDegree n l
-    degree-within within = elim (ℕ-discrete first 0) [
-      | yes none ↦
-          let d = common none in
-          let m = matched limit (l .shape) (l .class) none in
-          elim (ℕ-discrete (lineDegree l) 0) [
-            | yes z ↦ d ∙ z ∙ sym (no-degree (λ s. omega (arith, s .some)))
-            | no f ↦ d ∙ sym (sound-degree (record {
-              shape = shape-good (m .shape .good);
-              class = class-good (m .class .good);
-              degrees = m .degrees;
-              some = omega arith;
-              within = omega arith;
-            }))
-          ]
-      | no some ↦ uncommon some ∙ sym (no-degree (λ s. some (words-pass s)))
+    pub degree-within : d ≤ n → d ≡ e → d ≡ soundDegree n l
+    degree-within within same = elim (ℕ-discrete d 0) [
+      | yes z ↦ z ∙ sym (no-degree (λ s. omega (arith, both-are s .0, s .some)))
+      | no some ↦
+          let s = shape-degree-some limit (l .shape) (λ z. some (of-shape ∙ z)) in
+          let c = class-degree-some limit (l .class) (λ z. some (same ∙ of-class ∙ z)) in
+          let d-is : d ≡ lineDegree l = of-shape ∙ shape-degree-is s in
+          let e-is = of-class ∙ class-degree-is c in
+          d-is ∙ sym (sound-degree (record {
+            shape = shape-good (s .good);
+            class = class-good (c .good);
+            degrees = sym d-is ∙ same ∙ e-is;
+            some = omega arith;
+            within = omega arith;
+          }))
     ]
 
 -- a page's word counts its d! once

@@ -10,7 +10,8 @@ ghost use Rattle.theory.specs.Refusals.{firstOf};
 ghost use Rattle.pages.specs.Page.{lineOf};
 ghost use Rattle.pages.specs.Sound.{sound as isSound, pageChecks};
 ghost use Rattle.pages.specs.Budget.{overspent as noBudget, budgetOf, spentAll};
-ghost use Rattle.pages.specs.Private.Degrees.{soundDegree, mostDegree};
+ghost use Rattle.pages.specs.Private.Degrees.{soundDegree, mostDegree, paidFor, wordDegree};
+ghost use Rattle.pages.specs.Private.Degrees.{AllKnown, Knows};
 ghost use Rattle.pages.specs.Private.Tables.{Tabled};
 use super::Budget;
 use super::PAGE_LIMIT;
@@ -39,6 +40,13 @@ const SPANS: [u64; words::DEGREES] = [
     2246953104076,
     35951249665217,
 ];
+
+// How many places there are to remember words at: a prime number, which spreads words that end in zeros; with it
+// shapes, classes and tables take less than 4,096 bytes of the stack together, so that no page of it is probed.
+const PLACES: usize = 229;
+
+// As many lines as make it worth while to remember their words.
+const MANY: usize = 64;
 
 // The size of a number, of the least too.
 fn size(z: i64) -> u64
@@ -107,48 +115,114 @@ fn most_degree(budget: Budget) -> u32
     0
 }
 
-// The degree of a sound line of degree n at most, and 0 of any other word.
-fn degree(line: u64, n: u32) -> u32
-    requires { ⌜ n ≤ degreeLimit ⌝ }
-    ensures { λ r. ⌜ r ≡ soundDegree n (lineOf line) ⌝ }
+// The degree of a good word within the limit, of a class or of a shape, and 0 of any other word.
+fn read(class: bool, word: u32) -> u32
+    ensures { λ r. ⌜ r ≡ wordDegree degreeLimit class word ⌝ }
 {
-    let degree = pairs::common_degree(lines::shape(line), lines::class(line)).degree;
-    if n < degree { 0 } else { degree }
+    if class {
+        return words::classes::degree(word).number as u32;
+    }
+    words::shapes::degree(word).number as u32
 }
 
-// Each line takes its d! from the one budget and its S(d) from the other. The tables are lent, since a constant would be
-// made anew for each line.
+// The same, read only where it is not known: what is found of a word is written to its place, where places are lent.
+fn word_degree(class: bool, word: u32, known: &mut [u64]) -> u32
+    requires { ⌜ AllKnown class (now known) ⌝ }
+    ensures { λ r. ⌜ (r ≡ wordDegree degreeLimit class word) × AllKnown class (now (known .exit)) ⌝ }
+{
+    if known.len() < PLACES {
+        return read(class, word);
+    }
+    let place = word as usize % PLACES;
+    let found = known[place];
+    if found / 32 == word as u64 {
+        return (found % 32) as u32;
+    }
+    let degree = read(class, word);
+    known[place] = word as u64 * 32 + degree as u64;
+    degree
+}
+
+// The degree of a sound line of degree n at most, and 0 of any other word.
+fn degree(line: u64, n: u32, shapes: &mut [u64], classes: &mut [u64]) -> u32
+    requires { ⌜ (n ≤ degreeLimit) × Knows (now shapes) (now classes) ⌝ }
+    ensures { λ r. ⌜ (r ≡ soundDegree n (lineOf line)) × Knows (now (shapes .exit)) (now (classes .exit)) ⌝ }
+{
+    let degree = word_degree(false, lines::shape(line), shapes);
+    let other = word_degree(true, lines::class(line), classes);
+    if n < degree {
+        return 0;
+    }
+    if degree == other { degree } else { 0 }
+}
+
+// What a line of this degree leaves of a budget: its d! is taken from the one and its S(d) from the other. The degree 0
+// is no line's. The tables are lent, since a constant would be made anew for each line.
+fn paid(budget: Budget, degree: u32, factorials: &[u64], spans: &[u64]) -> Budget
+    requires { ⌜ Tabled degreeLimit factorial (now factorials) × Tabled degreeLimit S (now spans)
+        × (degree ≤ degreeLimit) ⌝ }
+    ensures { λ r. ⌜ r ≡ paidFor degree budget ⌝ }
+{
+    if degree == 0 {
+        return overspent();
+    }
+    let value = factorials[degree as usize];
+    if budget.value < value {
+        return overspent();
+    }
+    let span = spans[degree as usize];
+    if budget.span < span {
+        return overspent();
+    }
+    Budget {
+        enough: true,
+        degree: budget.degree,
+        value: budget.value - value,
+        span: budget.span - span,
+    }
+}
+
+// What lines leave of a budget, words being remembered where places are lent.
+fn spent_with(
+    budget: Budget,
+    lines: &[u64],
+    factorials: &[u64],
+    spans: &[u64],
+    shapes: &mut [u64],
+    classes: &mut [u64],
+) -> Budget
+    requires { ⌜ Tabled degreeLimit factorial (now factorials) × Tabled degreeLimit S (now spans)
+        × Knows (now shapes) (now classes) ⌝ }
+    ensures { λ r. ⌜ r ≡ spentAll degreeLimit budget (map lineOf (now (lines .entry))) ⌝ }
+{
+    let mut left = budget;
+    let mut i = 0;
+    while i < lines.len() {
+        let degree = degree(lines[i], most_degree(left), shapes, classes);
+        left = paid(left, degree, factorials, spans);
+        if left.enough {
+            i += 1;
+        } else {
+            return left;
+        }
+    }
+    left
+}
+
+// The same, with places where there are many lines, which have few words between them: they start as zeros, which are
+// right, since the word 0 has the degree 0.
 fn spent(budget: Budget, lines: &[u64], factorials: &[u64], spans: &[u64]) -> Budget
     requires { ⌜ Tabled degreeLimit factorial (now factorials) × Tabled degreeLimit S (now spans) ⌝ }
     ensures { λ r. ⌜ r ≡ spentAll degreeLimit budget (map lineOf (now (lines .entry))) ⌝ }
 {
-    let n = most_degree(budget);
-    let mut value_left = budget.value;
-    let mut span_left = budget.span;
-    let mut i = 0;
-    while i < lines.len() {
-        let degree = degree(lines[i], n) as usize;
-        if degree == 0 {
-            return overspent();
-        }
-        let factorial = factorials[degree];
-        if value_left < factorial {
-            return overspent();
-        }
-        let most = spans[degree];
-        if span_left < most {
-            return overspent();
-        }
-        value_left -= factorial;
-        span_left -= most;
-        i += 1;
+    if lines.len() < MANY {
+        let mut shapes = [0u64; 0];
+        let mut classes = [0u64; 0];
+        return spent_with(budget, lines, factorials, spans, &mut shapes, &mut classes);
     }
-    Budget {
-        enough: budget.enough,
-        degree: budget.degree,
-        value: value_left,
-        span: span_left,
-    }
+    let mut shapes = [0u64; PLACES];
+    let mut classes = [0u64; PLACES];
+    spent_with(budget, lines, factorials, spans, &mut shapes, &mut classes)
 }
 
 // What n! and S(n) leave after the settled size and the steps; not enough where the slip's words are refused, the steps
@@ -171,16 +245,22 @@ pub fn spend(budget: Budget, lines: &[u64]) -> Budget
     spent(budget, lines, &factorials, &spans)
 }
 
-// Whether all words are 0.
+// Whether all words are 0, two words to a turn.
 fn zeros(words: &[u64]) -> bool
     ensures { λ r. ⌜ r ≡ every (_=? 0) (now (words .entry)) ⌝ }
 {
     let mut i = 0;
-    while i < words.len() {
+    while i + 1 < words.len() {
         if words[i] != 0 {
             return false;
         }
-        i += 1;
+        if words[i + 1] != 0 {
+            return false;
+        }
+        i += 2;
+    }
+    if i < words.len() {
+        return words[i] == 0;
     }
     true
 }

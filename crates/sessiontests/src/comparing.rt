@@ -1,5 +1,7 @@
 // What is compared after a call: pages, slips, and what the watches show.
 use super::drawing::PAGE;
+use super::drawing::Strike;
+use super::hooks::New;
 use characters::Watched;
 use characters::sessions;
 use pages::Slip;
@@ -14,6 +16,30 @@ pub fn same(page: &[u64; PAGE], other: &[u64; PAGE]) -> bool {
         i += 1;
     }
     same
+}
+
+// Whether a page is another after a strike: the line is taken out, later lines moved down, the new ones come at the
+// end, and zeros after them.
+pub fn stepped(page: &[u64; PAGE], before: &[u64; PAGE], strike: Strike, new: New) -> bool {
+    let lines = new.lines;
+    let left = std::num::wrapping_sub_usize(strike.slip.lines, 1);
+    let end = std::num::wrapping_add_usize(left, new.count);
+    let mut all = true;
+    let mut i = 0;
+    while i < PAGE {
+        let expected = if i < strike.line {
+            before[i]
+        } else if i < left {
+            before[(i + 1) % PAGE]
+        } else if i < end {
+            lines[std::num::wrapping_sub_usize(i, left) % PAGE]
+        } else {
+            0
+        };
+        all = all & (page[i] == expected);
+        i += 1;
+    }
+    all
 }
 
 pub fn same_slip(slip: Slip, other: Slip) -> bool {

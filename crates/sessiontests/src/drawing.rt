@@ -1,6 +1,4 @@
 // What is drawn at random for a call, from one word of a fixed generator.
-use characters::Handed;
-use characters::sessions;
 use pages::Slip;
 
 // How many words a page has.
@@ -59,8 +57,9 @@ pub fn asked(opens: bool, slip: Slip, word: u64) -> Slip {
     }
 }
 
-// A line, and a cycle to be struck from it.
+// A slip, one of its lines, and a cycle to be struck from it.
 pub struct Strike {
+    pub slip: Slip,
     pub line: usize,
     pub cycle: u64,
 }
@@ -71,15 +70,8 @@ pub fn drawn(slip: Slip, word: u64, page: &[u64; PAGE]) -> Strike {
     let line = turned(below(word >> 8, slip.lines), word >> 20) as usize;
     let class = page[line % PAGE] << (32 + ((word >> 28) & (word >> 32) & (word >> 36)) % 4);
     Strike {
+        slip,
         line,
         cycle: turned(u64::leading_zeros(class), word >> 40) as u64,
     }
-}
-
-// Makes a call: an opening of the slip's words, or a step of it.
-pub fn make(opens: bool, slip: Slip, strike: Strike, page: &mut [u64; PAGE]) -> Handed {
-    if opens {
-        return sessions::open(slip.shape, slip.class, page);
-    }
-    sessions::step(slip, page, strike.line, strike.cycle)
 }

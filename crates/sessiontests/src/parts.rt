@@ -1,8 +1,11 @@
-// Calls on the first bytes of a text and the first words of a page. A length above that of what is lent is brought down
-// to it.
+// Calls on the first bytes of a text and the first words of a page or a strip. A length above that of what is lent is
+// brought down to it.
 ghost use Prim.Native.Nat.{_≤_};
 use super::comparing::Shown;
 use super::comparing::watches;
+use super::drawing::Strike;
+use characters::Handed;
+use characters::sessions;
 use pages::Slip;
 use sessiontext::Loaded;
 use words::CountAnswer;
@@ -38,6 +41,24 @@ pub fn load_on(text: &[u8], length: usize, page: &mut [u64], room: usize) -> Loa
 pub fn watches_on(slip: Slip, page: &[u64], room: usize) -> Shown {
     let end = lesser(room, page.len());
     watches(slip, &page[..end])
+}
+
+// Previews on the first words of a strip.
+pub fn preview_on(strike: Strike, page: &[u64], strip: &mut [u64], room: usize) -> CountAnswer {
+    let end = lesser(room, strip.len());
+    sessions::preview(
+        strike.slip,
+        page,
+        strike.line,
+        strike.cycle,
+        &mut strip[..end],
+    )
+}
+
+// Commits with the first words of a strip.
+pub fn commit_with(strike: Strike, page: &mut [u64], strip: &[u64], length: usize) -> Handed {
+    let end = lesser(length, strip.len());
+    sessions::commit(strike.slip, page, strike.line, strike.cycle, &strip[..end])
 }
 
 // Whether the first bytes of two texts are the same.

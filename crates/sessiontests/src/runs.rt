@@ -1,16 +1,24 @@
-// A random run of sessions on one page, with saves and loads in between, counted in five rows of a board.
+// A random run of sessions on one page and one strip, with saves and loads in between, counted in six rows of a board.
 use super::board::SIZE;
 use super::board::enter;
-use super::calls::call;
+use super::calls::open;
 use super::calls::opens;
 use super::comparing::watches;
 use super::drawing::FIRST;
 use super::drawing::PAGE;
+use super::drawing::asked;
+use super::drawing::drawn;
 use super::drawing::next;
+use super::hooks::struck;
 use super::loads::load;
 use super::loads::load_elsewhere;
 use super::saves::Saved;
 use super::saves::save;
+use super::steps::commit;
+use super::steps::preview;
+use super::strips::STRIP;
+use super::strips::handed;
+use super::strips::room;
 use super::texts::ROOM;
 use pages::Slip;
 
@@ -18,18 +26,44 @@ const CALLS: u32 = 10000;
 
 pub const OPENINGS: usize = 0;
 
-pub const STEPS: usize = 1;
+pub const PREVIEWS: usize = 1;
 
-pub const SAVES: usize = 2;
+pub const COMMITS: usize = 2;
 
-pub const LOADS: usize = 3;
+pub const SAVES: usize = 3;
 
-pub const ELSEWHERE: usize = 4;
+pub const LOADS: usize = 4;
+
+pub const ELSEWHERE: usize = 5;
 
 // Where a run stands: its slip, and what it put away.
 pub struct Stand {
     pub slip: Slip,
     pub saved: Saved,
+}
+
+// A drawn step: a preview on the run's strip, of which one word is drawn anew, and a commit with what is drawn of it.
+fn step(
+    run: Slip,
+    word: u64,
+    page: &mut [u64; PAGE],
+    twin: &mut [u64; PAGE],
+    strip: &mut [u64; STRIP],
+    board: &mut [u64; SIZE],
+) -> Slip {
+    let strike = drawn(asked(false, run, word), word, page);
+    let new = struck(run, strike, page);
+    let before = *strip;
+    let word = next(word);
+    strip[(word >> 8) as usize % STRIP] = word;
+    let lent = room(new.count, word >> 16);
+    let seen = preview(strike, new, lent, page, twin, strip);
+    enter(board, PREVIEWS, seen.refused, seen.wrong);
+    let lent = room(new.count, word >> 24);
+    let other = handed(*strip, before, new.count, word >> 32);
+    let found = commit(run, strike, new, lent, page, twin, &other);
+    enter(board, COMMITS, found.refused, found.wrong);
+    found.slip
 }
 
 // The next call: one in sixteen is a save, and one a load.
@@ -40,6 +74,7 @@ fn turn(
     twin: &mut [u64; PAGE],
     text: &mut [u8; ROOM],
     other: &mut [u8; ROOM],
+    strip: &mut [u64; STRIP],
     board: &mut [u64; SIZE],
 ) -> Stand {
     let slip = stand.slip;
@@ -58,25 +93,24 @@ fn turn(
         let slip = found.slip;
         return Stand { slip, saved };
     }
-    let opens = opens(slip, word);
-    let found = call(opens, slip, word, page, twin);
-    enter(
-        board,
-        if opens { OPENINGS } else { STEPS },
-        found.refused,
-        found.wrong,
-    );
-    let slip = found.slip;
+    if opens(slip, word) {
+        let found = open(slip, word, page, twin);
+        enter(board, OPENINGS, found.refused, found.wrong);
+        let slip = found.slip;
+        return Stand { slip, saved };
+    }
+    let slip = step(slip, word, page, twin, strip, board);
     Stand { slip, saved }
 }
 
-// The run starts with degree 0 opened and saved.
+// The run starts with degree 0 opened and saved. Every other word of the generator is left to steps, for their strips.
 pub fn all() -> [u64; SIZE] {
     let mut board = [0u64; SIZE];
     let mut page = [0u64; PAGE];
     let mut twin = [0u64; PAGE];
     let mut text = [0u8; ROOM];
     let mut other = [0u8; ROOM];
+    let mut strip = [0u64; STRIP];
     let slip = Slip {
         shape: 0,
         class: 0,
@@ -98,7 +132,7 @@ pub fn all() -> [u64; SIZE] {
     let mut word = FIRST;
     let mut made = 0u32;
     while made < CALLS {
-        word = next(word);
+        word = next(next(word));
         stand = turn(
             stand,
             word,
@@ -106,6 +140,7 @@ pub fn all() -> [u64; SIZE] {
             &mut twin,
             &mut text,
             &mut other,
+            &mut strip,
             &mut board,
         );
         made += 1;

@@ -9,17 +9,15 @@ use lib.ListN.{length-drop, drop-of-length-le}
 use lib.Seq.{drop-drop, getD-drop, take-all}
 use borrow.Author.Tests.{not-false}
 use Rattle.theory.specs.Basics.{Bool, true, false, not, _&&_, List, [], _∷_, ℕ, _+_, _-_, length, getD, take, drop}
-use Rattle.theory.specs.Basics.{_=?_}
-use Rattle.theory.specs.Basics.Laws.{Each}
+use Rattle.theory.specs.Basics.{_=?_, same}
+use Rattle.theory.specs.Basics.Laws.{Each, same-lists}
 use Rattle.theory.specs.Partition.{degree}
 use Rattle.theory.specs.Limits.{degreeLimit}
 use Rattle.theory.specs.Refusals.{Check, firstOf}
 use Rattle.theory.specs.Refusals.Laws.{none-applies}
-use Rattle.theory.specs.Listing.{same}
 use Rattle.text.specs.Text.{Text, ascii, decimal, field}
 use Rattle.text.specs.Reading.{numberIn, listIn, linesOf, firstLine}
 use Rattle.text.specs.Reading.Lines.{Next}
-use Rattle.text.specs.Reading.Bytes.{same-text}
 use Rattle.pages.specs.Page.{slipOf}
 use Rattle.sessiontext.specs.declared.numbers.NumberRead.{NumberRead}
 use Rattle.sessiontext.specs.declared.numbers.IntegerRead.{IntegerRead}
@@ -180,7 +178,7 @@ module _ (text : Text) {d : NumberRead} {s : ShapeRead} {k : ClassRead} {n z : I
     sixth-there : fault ≡ 0 → at text 5 ≡ [] → ⊥
     sixth-there e none =
         let c = not-false counted (all-formed e .1 .1 .1 .1 .1 .1 .0) in
-        let whole = same-text (at text 5) (field "lines=" (decimal count)) (sym counted-is ∙ c) in
+        let whole = same-lists (at text 5) (field "lines=" (decimal count)) (sym counted-is ∙ c) in
         omega (arith, ap length (sym none ∙ whole))
 
     pub head-read : {a b c e f end : ℕ} → Six text a b c e f end

@@ -11,11 +11,10 @@
 --   fault limit text            the first line that is at fault by one of faults, all checks; 0 if there is none
 --   slipIn text, linesIn text   the slip and the waiting lines that the text is read as
 use Rattle.theory.specs.Basics.{Bool, not, _&&_, List, [], _∷_, _++_, map, length, getD, drop, ℕ, suc, _^_, pos}
-use Rattle.theory.specs.Basics.{_=?_, _<?_, _≤?_}
+use Rattle.theory.specs.Basics.{_=?_, _<?_, _≤?_, same}
 use Rattle.theory.specs.Partition.{Parts, isPartition, degree}
 use Rattle.theory.specs.ShapeWord.{shapeWord}
 use Rattle.theory.specs.ClassWord.{classWord}
-use Rattle.theory.specs.Listing.{same}
 use Rattle.theory.specs.Refusals.{Check, firstOf}
 use Rattle.text.specs.Text.{Text, ascii, decimal, integer, listText, textLine, field}
 use Rattle.text.specs.Reading.{numberIn, holds, integerIn, before, behind, listIn, linesOf}

@@ -1,8 +1,10 @@
--- Runs (demand 3, cited in document 01, "What the contracts have to say", and in document 02, P1): after an accepted
--- opening any steps, watches, saves, loads and refused openings, each meeting its promise, the latest slip and page
--- handed on. An accepted opening ends a run, and so does an accepted load of a text that was not saved in it.
---   Call                      a call: its arguments, its answer, and the lent run as it returned
---   Standing                  where a run stands: its slip and page, how many accepted steps count, and the texts that
+-- Runs (demand 3, cited in document 01, "What the contracts have to say", and in document 02, P1 and P3): after an
+-- accepted opening any previews, commits, watches, saves, loads and refused openings, each meeting its promise, the
+-- latest slip and page handed on. A commit is handed any strip, whether it was previewed or not. An accepted opening ends
+-- a run, and so does an accepted load of a text that was not saved in it.
+--   Call                      a call: its arguments, the strip that it was lent among them, its answer, and the lent run
+--                             as it returned
+--   Standing                  where a run stands: its slip and page, how many accepted commits count, and the texts that
 --                             were saved, the latest first, each with the count at its save; standing .., by its fields
 --   countsAt text saves       the counts at the saves of this text, the latest first
 --   Promised s p call         the call, made with slip s on page p, meets its promise
@@ -11,10 +13,10 @@
 --   Run now calls end         from `now` the calls lead to `end`, each promised and belonging to the run
 --   Session ..                an accepted opening of a shape on a class, on the page p, and a run from there
 --   begun slip page           where a session stands when it was opened: no step counts, nothing was saved
---   unwatched calls           the calls with the watches struck; isWatch call, whether it is one
+--   isWatch call              it is a watch, or a preview, which counts as one
+--   unwatched calls           the calls with these struck; commits are handed the same strips
 use mathlib.Core.Path.{_≡_}
-use Rattle.theory.specs.Basics.{Bool, true, false, not, cond, List, [], _∷_, map, getD, take, ℕ, _+_, _=?_, keep}
-use Rattle.theory.specs.Listing.{same}
+use Rattle.theory.specs.Basics.{Bool, true, false, not, cond, List, [], _∷_, map, getD, take, ℕ, _+_, _=?_, keep, same}
 use Rattle.words.specs.declared.CountAnswer.{CountAnswer}
 use Rattle.words.specs.Answers.{Outcome}
 use Rattle.text.specs.Text.{Text}
@@ -22,7 +24,7 @@ use Rattle.pages.specs.declared.Slip.{Slip}
 use Rattle.characters.specs.declared.Handed.{Handed}
 use Rattle.characters.specs.declared.Watched.{Watched}
 use Rattle.characters.specs.Opening.{opening}
-use Rattle.characters.specs.Step.{step}
+use Rattle.characters.specs.Step.{preview, commit}
 use Rattle.characters.specs.Watch.{reads, watch}
 use Rattle.sessiontext.specs.Calls.{Loaded, saveInto, loadInto}
 pub mod Parts
@@ -37,7 +39,8 @@ pub mod Resumed
 
 pub data Call : Type 0 where
   opened : (shape class : ℕ) → Handed → (page : List ℕ) → Call
-  stepped : (line cycle : ℕ) → Handed → (page : List ℕ) → Call
+  previewed : (line cycle : ℕ) (strip : List ℕ) → CountAnswer → (left : List ℕ) → Call
+  committed : (line cycle : ℕ) (strip : List ℕ) → Handed → (page : List ℕ) → Call
   watched : (kind line : ℕ) → Watched → Call
   saved : (out : Text) → CountAnswer → (left : Text) → Call
   loaded : (text : Text) → Loaded → (page : List ℕ) → Call
@@ -61,14 +64,16 @@ standing slip page counted saves = record { slip = slip; page = page; counted = 
 module _ (limit : ℕ) (s : Slip) (p : List ℕ) where
   abbrev pub Promised : Call → Type 0
   Promised (opened shape class a q) = Outcome (opening limit shape class p) a q
-  Promised (stepped line cycle a q) = Outcome (step limit s p line cycle) a q
+  Promised (previewed line cycle strip a left) = Outcome (preview limit s p line cycle strip) a left
+  Promised (committed line cycle strip a q) = Outcome (commit limit s p line cycle strip) a q
   Promised (watched kind line a) = reads a ≡ watch limit s p kind line
   Promised (saved out a left) = Outcome (saveInto limit s p out) a left
   Promised (loaded text a q) = Outcome (loadInto limit text p) a q
 
 abbrev pub Belongs : Saves → Call → Type 0
 Belongs saves (opened shape class a q) = a .refused ≡ 0 → ⊥
-Belongs saves (stepped line cycle a q) = Unit {0}
+Belongs saves (previewed line cycle strip a left) = Unit {0}
+Belongs saves (committed line cycle strip a q) = Unit {0}
 Belongs saves (watched kind line a) = Unit {0}
 Belongs saves (saved out a left) = Unit {0}
 Belongs saves (loaded text a q) = a .refused ≡ 0 → countsAt text saves ≡ [] → ⊥
@@ -76,7 +81,8 @@ Belongs saves (loaded text a q) = a .refused ≡ 0 → countsAt text saves ≡ [
 -- a refused opening's or load's blank slip is laid aside; a load puts the count back to what it was at that save
 abbrev pub after : Standing → Call → Standing
 after now (opened shape class a q) = standing (now .slip) q (now .counted) (now .saves)
-after now (stepped line cycle a q) =
+after now (previewed line cycle strip a left) = now
+after now (committed line cycle strip a q) =
     standing (a .slip) q (now .counted + cond (a .refused =? 0) 1 0) (now .saves)
 after now (watched kind line a) = now
 after now (saved out a left) =
@@ -105,7 +111,8 @@ module _ (limit : ℕ) where
 
 abbrev pub isWatch : Call → Bool
 isWatch (opened shape class a q) = false
-isWatch (stepped line cycle a q) = false
+isWatch (previewed line cycle strip a left) = true
+isWatch (committed line cycle strip a q) = false
 isWatch (watched kind line a) = true
 isWatch (saved out a left) = false
 isWatch (loaded text a q) = false

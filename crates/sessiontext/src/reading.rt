@@ -1,6 +1,6 @@
 // The first six lines of a text.
 ghost use mathlib.Core.Path.{_≡_};
-ghost use Rattle.theory.specs.Listing.{same};
+ghost use Rattle.theory.specs.Basics.{same};
 ghost use Rattle.theory.specs.Refusals.{firstOf};
 ghost use Rattle.text.specs.Text.{decimal, field};
 ghost use Rattle.sessiontext.specs.Private.Read.{readChecks, ReadHead};

@@ -6,10 +6,10 @@
 --   asked input        the numbers of one or two digits whose line the input is: one, or none
 --   chartable limit input   what the program writes; chartableInto, at the front of lent bytes, the rest stays
 use Rattle.theory.specs.Basics.{not, List, [], _∷_, _++_, map, length, getD, drop, ℕ, ℤ}
-use Rattle.theory.specs.Basics.{_=?_, keep, joined, downFrom}
+use Rattle.theory.specs.Basics.{_=?_, keep, joined, downFrom, same}
 use Rattle.theory.specs.Partition.{Parts}
 use Rattle.theory.specs.ClassData.{classSize}
-use Rattle.theory.specs.Listing.{listing, same}
+use Rattle.theory.specs.Listing.{listing}
 use Rattle.theory.specs.Column.{column}
 use Rattle.theory.specs.Refusals.{firstOf, refusedOr, no-12, no-13}
 use Rattle.text.specs.Text.{Text, decimal, integer, commas, field}

@@ -1,5 +1,6 @@
 -- The few words that every file uses beside the library's.
 --   m =? n, m <? n, m ≤? n   tests of two numbers, true or false; odd n, whether n leaves 1 when it is halved
+--   same ms ns               whether they are the same numbers in the same places
 --   keep test xs             the elements that pass the test, in their order; count, how many; every, whether all do
 --   Each P xs                P holds of each element of xs
 --   joined f xs              the lists f x, for each x of xs, one after the other
@@ -30,6 +31,12 @@ m ≤? n = leb m n
 
 abbrev pub odd : ℕ → Bool
 odd n = n % 2 =? 1
+
+abbrev pub same : List ℕ → List ℕ → Bool
+same [] [] = true
+same [] (n ∷ ns) = false
+same (m ∷ ms) [] = false
+same (m ∷ ms) (n ∷ ns) = m =? n && same ms ns
 
 abbrev pub keep : {A : Type 0} → (A → Bool) → List A → List A
 keep test [] = []

@@ -7,8 +7,8 @@
 --   wordsBelow m          the words of all shapes of degrees below m, degree by degree, each degree in listing order
 --   start n               where the words of degree n start there, for any m above n
 use Prim.Native.Nat.{_<_}
-use Rattle.theory.specs.Basics.{Bool, true, false, cond, _&&_, List, [], _∷_, _++_, map, length}
-use Rattle.theory.specs.Basics.{ℕ, zero, suc, _-_, _=?_, _≤?_, keep, joined, downFrom}
+use Rattle.theory.specs.Basics.{cond, List, [], _∷_, _++_, map, length, ℕ, zero, suc, _-_, _≤?_, same, keep}
+use Rattle.theory.specs.Basics.{joined, downFrom}
 use Rattle.theory.specs.Partition.{Parts, degree}
 use Rattle.theory.specs.ShapeWord.{shapeWord}
 pub mod Laws
@@ -34,13 +34,6 @@ pub data Before : Parts → Parts → Type 0 where
 unfoldable pub partitionCounts : List ℕ
 partitionCounts =
     1 ∷ 1 ∷ 2 ∷ 3 ∷ 5 ∷ 7 ∷ 11 ∷ 15 ∷ 22 ∷ 30 ∷ 42 ∷ 56 ∷ 77 ∷ 101 ∷ 135 ∷ 176 ∷ 231 ∷ []
-
--- the same numbers in the same places
-abbrev pub same : List ℕ → List ℕ → Bool
-same [] [] = true
-same [] (q ∷ qs) = false
-same (p ∷ ps) [] = false
-same (p ∷ ps) (q ∷ qs) = p =? q && same ps qs
 
 abbrev pub rankIn : Parts → List Parts → ℕ
 rankIn ps [] = 0

@@ -7,10 +7,11 @@ use Rattle.theory.specs.Basics.{List, [], _∷_, ℕ}
 use Rattle.sessiontext.specs.Run.{Saves, countsAt, Standing, standing, after, begun}
 use Rattle.zembrusha.specs.declared.Slip.{Slip}
 use Rattle.zembrusha.specs.Exports.{given}
-use Rattle.zembrusha.specs.Session.{Call, opened, stepped, watched-whole, watched-ratio, watched-refusal}
-use Rattle.zembrusha.specs.Session.{saved, loaded, theirNext, Run, Session}
+use Rattle.zembrusha.specs.Session.{Call, opened, previewed, committed, watched-whole, watched-ratio}
+use Rattle.zembrusha.specs.Session.{watched-refusal, saved, loaded, theirNext, Run, Session}
 use Rattle.zembrusha.proofs.sessions.zembrusha_open.Reads as open-export
-use Rattle.zembrusha.proofs.sessions.zembrusha_step.Reads as step-export
+use Rattle.zembrusha.proofs.sessions.zembrusha_preview.Reads as preview-export
+use Rattle.zembrusha.proofs.sessions.zembrusha_commit.Reads as commit-export
 use Rattle.zembrusha.proofs.sessions.zembrusha_watch_whole.Reads as whole-export
 use Rattle.zembrusha.proofs.sessions.zembrusha_watch_ratio.Reads as ratio-export
 use Rattle.zembrusha.proofs.sessions.zembrusha_watch_refusal.Reads as refusal-export
@@ -37,10 +38,17 @@ module _ (calls : List Call) (end : Standing) where
     unfolding Run
     run-opens κs a r s u o refused run = (o, refused, run)
 
-    pub run-steps : (κs : _) (a : _) (r : _) (s : _) → step-export.Post κs a r s
-        → InFront (at-hand (a .0) (now (a .1 .0))) (stepped (a .1 .1 .0) (a .1 .1 .1 .0) r (now (s .1 .0)))
+    pub run-previews : (κs : _) (a : _) (r : _) (s : _) → preview-export.Post κs a r s
+        → InFront (at-hand (a .0) (now (a .1 .0)))
+        (previewed (a .1 .1 .0) (a .1 .1 .1 .0) (now (a .1 .1 .1 .1 .0)) r (now (s .1 .1 .1 .1 .0)))
     unfolding Run
-    run-steps κs a r s o run = (o, tt, run)
+    run-previews κs a r s o run = (o, tt, run)
+
+    pub run-commits : (κs : _) (a : _) (r : _) (s : _) → commit-export.Post κs a r s
+        → InFront (at-hand (a .0) (now (a .1 .0)))
+        (committed (a .1 .1 .0) (a .1 .1 .1 .0) (now (a .1 .1 .1 .1 .0)) r (now (s .1 .0)))
+    unfolding Run
+    run-commits κs a r s o run = (o, tt, run)
 
     pub run-watches-whole : (κs : _) (a : _) (r : _) (s : _) → whole-export.Post κs a r s
         → InFront (at-hand (a .0) (now (a .1 .0))) (watched-whole (a .1 .1 .0) (a .1 .1 .1 .0) r)

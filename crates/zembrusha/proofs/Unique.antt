@@ -8,7 +8,7 @@ use Rattle.words.specs.Calls.{shapePartsInto, classPartsInto}
 use Rattle.words.specs.Calls.Laws.{one-period-told}
 use Rattle.characters.specs.Calls.{columnInto}
 use Rattle.characters.specs.Opening.{opening}
-use Rattle.characters.specs.Step.{step as stepOf}
+use Rattle.characters.specs.Step.{preview, commit}
 use Rattle.sessiontext.specs.Calls.{saveInto, loadInto}
 use Rattle.zembrusha.specs.Exports.{counted, given, handedRun, loadedRun}
 use Rattle.zembrusha.proofs.singles.zembrusha_character.Reads as character
@@ -31,7 +31,8 @@ use Rattle.zembrusha.proofs.runs.zembrusha_shape_parts.Reads as shape-p
 use Rattle.zembrusha.proofs.runs.zembrusha_class_parts.Reads as class-parts
 use Rattle.zembrusha.proofs.runs.zembrusha_column.Reads as column
 use Rattle.zembrusha.proofs.sessions.zembrusha_open.Reads as opened
-use Rattle.zembrusha.proofs.sessions.zembrusha_step.Reads as stepped
+use Rattle.zembrusha.proofs.sessions.zembrusha_preview.Reads as previewed
+use Rattle.zembrusha.proofs.sessions.zembrusha_commit.Reads as committed
 use Rattle.zembrusha.proofs.sessions.zembrusha_watch_whole.Reads as watch-whole
 use Rattle.zembrusha.proofs.sessions.zembrusha_watch_ratio.Reads as watch-ratio
 use Rattle.zembrusha.proofs.sessions.zembrusha_watch_refusal.Reads as watch-refusal
@@ -127,10 +128,19 @@ pub zembrusha-open-once : (κs : _) (a : _) (r r′ : _) (s s′ : _) → opened
 zembrusha-open-once κs a r r′ s s′ p q =
     one-outcome (handedRun (opening degreeLimit (a .0) (a .1 .0) (now (a .1 .1 .0)))) p q
 
-pub zembrusha-step-once : (κs : _) (a : _) (r r′ : _) (s s′ : _) → stepped.Post κs a r s → stepped.Post κs a r′ s′
-    → (r ≡ r′) × (now (s .1 .0) ≡ now (s′ .1 .0))
-zembrusha-step-once κs a r r′ s s′ p q =
-    one-outcome (handedRun (stepOf degreeLimit (given (a .0)) (now (a .1 .0)) (a .1 .1 .0) (a .1 .1 .1 .0))) p q
+pub zembrusha-preview-once : (κs : _) (a : _) (r r′ : _) (s s′ : _) → previewed.Post κs a r s
+    → previewed.Post κs a r′ s′ → (r ≡ r′) × (now (s .1 .1 .1 .1 .0) ≡ now (s′ .1 .1 .1 .1 .0))
+zembrusha-preview-once κs a r r′ s s′ p q =
+    one-outcome
+    (counted
+    (preview degreeLimit (given (a .0)) (now (a .1 .0)) (a .1 .1 .0) (a .1 .1 .1 .0) (now (a .1 .1 .1 .1 .0)))) p q
+
+pub zembrusha-commit-once : (κs : _) (a : _) (r r′ : _) (s s′ : _) → committed.Post κs a r s
+    → committed.Post κs a r′ s′ → (r ≡ r′) × (now (s .1 .0) ≡ now (s′ .1 .0))
+zembrusha-commit-once κs a r r′ s s′ p q =
+    one-outcome
+    (handedRun
+    (commit degreeLimit (given (a .0)) (now (a .1 .0)) (a .1 .1 .0) (a .1 .1 .1 .0) (now (a .1 .1 .1 .1 .0)))) p q
 
 pub zembrusha-watch-whole-once : (κs : _) (a : _) (r r′ : _) (s s′ : _) → watch-whole.Post κs a r s
     → watch-whole.Post κs a r′ s′ → r ≡ r′

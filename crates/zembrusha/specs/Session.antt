@@ -1,5 +1,5 @@
--- Sessions as C makes them (demand 3, through the exports): after an accepted opening any exported steps, watches,
--- saves, loads and refused openings, each meeting its contract, the latest slip and page handed on.
+-- Sessions as C makes them (demand 3, through the exports): after an accepted opening any exported previews, commits,
+-- watches, saves, loads and refused openings, each meeting its contract, the latest slip and page handed on.
 --   Call                 a call of an export: its arguments, its answer, and the lent run as it returned
 --   taken answer         the calculator's answer that was handed over as this one; takenCount and takenLoad so too
 --   Promised s p call    the call, made with the slip that is given as s on page p, meets its contract
@@ -19,7 +19,7 @@ use Rattle.text.specs.Text.{Text}
 use Rattle.pages.specs.declared.Slip as calculator-slip
 use Rattle.characters.specs.declared.Handed as calculator-handed
 use Rattle.characters.specs.Opening.{opening}
-use Rattle.characters.specs.Step.{step}
+use Rattle.characters.specs.Step.{preview, commit}
 use Rattle.characters.specs.Watch.{watch}
 use Rattle.characters.specs.Watch.Answers.{said}
 use Rattle.sessiontext.specs.declared.Loaded as calculator-loaded
@@ -34,7 +34,8 @@ pub mod Laws
 
 pub data Call : Type 0 where
   opened : (shape class : ℕ) → Handed → (page : List ℕ) → Call
-  stepped : (line cycle : ℕ) → Handed → (page : List ℕ) → Call
+  previewed : (line cycle : ℕ) (strip : List ℕ) → Number → (left : List ℕ) → Call
+  committed : (line cycle : ℕ) (strip : List ℕ) → Handed → (page : List ℕ) → Call
   watched-whole : (kind line : ℕ) → ℤ → Call
   watched-ratio : (kind line : ℕ) → Float → Call
   watched-refusal : (kind line : ℕ) → ℕ → Call
@@ -55,7 +56,8 @@ takenLoad a = record { refused = a .refused; line = a .line; slip = given (a .sl
 module _ (s : calculator-slip.Slip) (p : List ℕ) where
   abbrev pub Promised : Call → Type 0
   Promised (opened shape class a q) = Outcome (handedRun (opening degreeLimit shape class p)) a q
-  Promised (stepped line cycle a q) = Outcome (handedRun (step degreeLimit s p line cycle)) a q
+  Promised (previewed line cycle strip a left) = Outcome (counted (preview degreeLimit s p line cycle strip)) a left
+  Promised (committed line cycle strip a q) = Outcome (handedRun (commit degreeLimit s p line cycle strip)) a q
   Promised (watched-whole kind line z) = z ≡ number (watch degreeLimit s p kind line .1)
   Promised (watched-ratio kind line x) = x ≡ fraction (watch degreeLimit s p kind line .1)
   Promised (watched-refusal kind line k) = k ≡ watch degreeLimit s p kind line .0
@@ -64,7 +66,8 @@ module _ (s : calculator-slip.Slip) (p : List ℕ) where
 
   abbrev pub theirs : Call → calculator.Call
   theirs (opened shape class a q) = calculator.opened shape class (taken a) q
-  theirs (stepped line cycle a q) = calculator.stepped line cycle (taken a) q
+  theirs (previewed line cycle strip a left) = calculator.previewed line cycle strip (takenCount a) left
+  theirs (committed line cycle strip a q) = calculator.committed line cycle strip (taken a) q
   theirs (watched-whole kind line z) = calculator.watched kind line (said (watch degreeLimit s p kind line))
   theirs (watched-ratio kind line x) = calculator.watched kind line (said (watch degreeLimit s p kind line))
   theirs (watched-refusal kind line k) = calculator.watched kind line (said (watch degreeLimit s p kind line))

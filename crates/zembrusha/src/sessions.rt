@@ -1,12 +1,13 @@
-// Sessions: the slip goes in and comes back by value, the page is lent.
+// Sessions: the slip goes in and comes back by value, page and strip are lent, each a pointer and then a length.
 ghost use mathlib.Core.Path.{_≡_};
 ghost use Rattle.theory.specs.Limits.{degreeLimit};
 ghost use Rattle.words.specs.Answers.{Outcome};
 ghost use Rattle.characters.specs.Opening.{opening};
-ghost use Rattle.characters.specs.Step.{step};
+ghost use Rattle.characters.specs.Step.{preview, commit};
 ghost use Rattle.characters.specs.Watch.{reads, watch};
-ghost use Rattle.zembrusha.specs.Exports.{given, handedRun, number, fraction};
+ghost use Rattle.zembrusha.specs.Exports.{given, counted, handedRun, number, fraction};
 use super::Handed;
+use super::Number;
 use super::Slip;
 use super::handing;
 use characters::Watched;
@@ -21,15 +22,40 @@ pub extern "C" fn zembrusha_open(shape: u32, class: u32, page: &mut [u64]) -> Ha
     handing::slip_out(opened.refused, slip)
 }
 
-// Strikes a cycle from a line.
+// The new lines of a named line and cycle, at the front of a strip; their count is the number.
 #[no_mangle]
-pub extern "C" fn zembrusha_step(slip: Slip, page: &mut [u64], line: u64, cycle: u64) -> Handed
-    ensures { λ r. ⌜ Outcome (handedRun (step degreeLimit (given slip) (now (page .entry)) line cycle))
+pub extern "C" fn zembrusha_preview(
+    slip: Slip,
+    page: &[u64],
+    line: u64,
+    cycle: u64,
+    strip: &mut [u64],
+) -> Number
+    ensures { λ r. ⌜ Outcome
+        (counted (preview degreeLimit (given slip) (now (page .entry)) line cycle (now (strip .entry))))
+        r (now (strip .exit)) ⌝ }
+{
+    let own = handing::slip_in(slip);
+    handing::of_count(characters::sessions::preview(own, page, line as usize, cycle, strip))
+}
+
+// Finishes a step whose preview is the front of the strip.
+#[no_mangle]
+pub extern "C" fn zembrusha_commit(
+    slip: Slip,
+    page: &mut [u64],
+    line: u64,
+    cycle: u64,
+    strip: &[u64],
+) -> Handed
+    ensures { λ r. ⌜ Outcome
+        (handedRun (commit degreeLimit (given slip) (now (page .entry)) line cycle (now (strip .entry))))
         r (now (page .exit)) ⌝ }
 {
-    let stepped = characters::sessions::step(handing::slip_in(slip), page, line as usize, cycle);
-    let next = stepped.slip;
-    handing::slip_out(stepped.refused, next)
+    let own = handing::slip_in(slip);
+    let committed = characters::sessions::commit(own, page, line as usize, cycle, strip);
+    let next = committed.slip;
+    handing::slip_out(committed.refused, next)
 }
 
 // The whole number of what was watched, 0 where there is none.

@@ -57,7 +57,24 @@ extern "C" {
     fn zembrusha_class_parts(class: u32, column: *mut u8, length: usize) -> Number;
     fn zembrusha_column(class: u32, values: *mut i64, length: usize) -> Number;
     fn zembrusha_open(shape: u32, class: u32, page: *mut u64, words: usize) -> Handed;
-    fn zembrusha_step(slip: CSlip, page: *mut u64, words: usize, line: u64, cycle: u64) -> Handed;
+    fn zembrusha_preview(
+        slip: CSlip,
+        page: *const u64,
+        words: usize,
+        line: u64,
+        cycle: u64,
+        strip: *mut u64,
+        length: usize,
+    ) -> Number;
+    fn zembrusha_commit(
+        slip: CSlip,
+        page: *mut u64,
+        words: usize,
+        line: u64,
+        cycle: u64,
+        strip: *const u64,
+        length: usize,
+    ) -> Handed;
     fn zembrusha_watch_whole(slip: CSlip, page: *const u64, words: usize, kind: u64, line: u64) -> i64;
     fn zembrusha_watch_ratio(slip: CSlip, page: *const u64, words: usize, kind: u64, line: u64) -> f64;
     fn zembrusha_watch_refusal(slip: CSlip, page: *const u64, words: usize, kind: u64, line: u64) -> u32;
@@ -149,8 +166,22 @@ pub fn open(shape: u32, class: u32, page: &[u64]) -> Left<(u32, Slip), u64> {
     lend(page, |pointer, words| handed(unsafe { zembrusha_open(shape, class, pointer, words) }))
 }
 
-pub fn step(slip: Slip, page: &[u64], line: u64, cycle: u64) -> Left<(u32, Slip), u64> {
-    lend(page, |pointer, words| handed(unsafe { zembrusha_step(slip.into(), pointer, words, line, cycle) }))
+/// What a preview answers, the count, and leaves on the page, and what it leaves on the strip.
+pub fn preview(slip: Slip, page: &[u64], line: u64, cycle: u64, strip: &[u64]) -> Left<Left<Valued<u64>, u64>, u64> {
+    lend(strip, |to, length| {
+        lend(page, |from, words| {
+            valued(unsafe { zembrusha_preview(slip.into(), from, words, line, cycle, to, length) })
+        })
+    })
+}
+
+/// What a commit answers and leaves on the strip, and what it leaves on the page.
+pub fn commit(slip: Slip, page: &[u64], line: u64, cycle: u64, strip: &[u64]) -> Left<Left<(u32, Slip), u64>, u64> {
+    lend(page, |to, words| {
+        lend(strip, |from, length| {
+            handed(unsafe { zembrusha_commit(slip.into(), to, words, line, cycle, from, length) })
+        })
+    })
 }
 
 pub fn watch_whole(slip: Slip, page: &[u64], kind: u64, line: u64) -> Left<i64, u64> {

@@ -47,8 +47,10 @@ impl<R: Debug, T: Debug> Debug for Left<R, T> {
 /// Lends a copy of the run to a call.
 pub fn lend<R, T: Guard>(run: &[T], call: impl FnOnce(*mut T, usize) -> R) -> Left<R, T> {
     let end = GUARDS + run.len();
-    let mut room: Vec<T> = (0..end + GUARDS).map(T::guard).collect();
-    room[GUARDS..end].copy_from_slice(run);
+    let mut room = Vec::with_capacity(end + GUARDS);
+    room.extend((0..GUARDS).map(T::guard));
+    room.extend_from_slice(run);
+    room.extend((end..end + GUARDS).map(T::guard));
     let answer = call(room[GUARDS..end].as_mut_ptr(), run.len());
     let outside = (0..GUARDS).chain(end..end + GUARDS);
     let guards_kept = outside.into_iter().all(|at| room[at] == T::guard(at));

@@ -7,12 +7,12 @@ use Rattle.theory.specs.Bounds.{factorial, S}
 use Rattle.pages.specs.Line.{hookLines}
 use Rattle.pages.specs.Sound.{soundLine, soundLines, sound}
 use Rattle.characters.specs.Opening.{opening}
-use Rattle.characters.specs.Step.{nextLines, nextSlip, step}
+use Rattle.characters.specs.Step.{nextLines, nextSlip, preview, commit}
 use Rattle.characters.specs.Examples.{Examples}
 
 pub examples : Examples
 unfolding character digits word hooks hookWords hookLines factorial S soundLine soundLines sound opening nextLines
-    nextSlip step
+    nextSlip preview commit
 examples = record {
   E1 = refl;
   E2 = refl;
@@ -27,9 +27,13 @@ examples = record {
   E9 = refl;
   E10 = refl;
   E11 = refl;
+  E11-seen = refl;
   E11-3 = refl;
   E11-3-2 = refl;
+  E11-3-seen = refl;
+  E12-seen = refl;
   E12-2 = refl;
   E12-2-3 = refl;
+  E13-seen = refl;
   E13 = refl;
 }

@@ -1,5 +1,6 @@
--- An accepted step on any sound slip and page, whoever wrote it: what it leaves is sound again and worth the same.
+-- An accepted commit on any sound slip and page, whoever wrote it: what it leaves is sound again and worth the same.
 --   NamedOn ..    what it tells that no check from 6 to 9 refuses a line and a cycle; Accepted .., that none refuses
+--                 a commit
 use mathlib.Core.Path.{_≡_, refl, _∙_, ap}
 use Prim.Native.Nat.{_≤_, _<_}
 use native.Mathlib.Omega.{arith}
@@ -12,7 +13,7 @@ use Rattle.theory.specs.Limits.{pageLimit}
 use Rattle.theory.specs.ShapeWord.Good.{good-shape}
 use Rattle.theory.specs.ClassWord.{classOf}
 use Rattle.theory.specs.ClassWord.Laws.{good-class}
-use Rattle.theory.specs.Refusals.{Check, firstOf, no-8, no-9, no-10}
+use Rattle.theory.specs.Refusals.{Check, firstOf, no-8, no-9, no-10, no-19}
 use Rattle.theory.specs.Refusals.Laws.{none-applies, both-pass}
 use Rattle.pages.specs.Line.{Line}
 use Rattle.pages.specs.Line.Hooks.{hook-line-class}
@@ -22,7 +23,7 @@ use Rattle.pages.specs.Page.Words.{Plain, plain-line, plain-lines}
 use Rattle.pages.specs.Sound.{pageChecks}
 use Rattle.pages.specs.Sound.Laws.{Sound, page-passed, asked}
 use Rattle.pages.specs.Sound.Padded.{waiting-padded, sound-padded}
-use Rattle.characters.specs.Step.{waitingHooks, nextLines, nextSlip, namedChecks, stepChecks}
+use Rattle.characters.specs.Step.{waitingHooks, nextLines, nextSlip, namedChecks, newLines, commitChecks}
 use Rattle.characters.specs.Step.Strike.{each-waiting}
 use Rattle.characters.specs.Step.Named.{Named, chosen-sound, next-each, next-sound, next-worth}
 
@@ -59,18 +60,18 @@ module _ (limit : ℕ) (slip : Slip) (page : List ℕ) (line cycle : ℕ) where
         };
       }
 
-  -- ---- an accepted step
+  -- ---- an accepted commit
   pub record Accepted : Type 0 where
     pub named : NamedOn
     pub room : length next ≤ length page
 
-  pub accepted : firstOf (stepChecks limit slip page line cycle) ≡ 0 → Accepted
-  accepted e =
-      let last : List Check = no-10 next page ∷ [] in
+  pub accepted : (strip : List ℕ) → firstOf (commitChecks limit slip page line cycle strip) ≡ 0 → Accepted
+  accepted strip e =
+      let last : List Check = no-19 (newLines slip page line cycle) strip ∷ no-10 next page ∷ [] in
       let (named-none, none) = both-pass (namedChecks limit slip page line cycle) last refl e in
       record {
         named = named-on named-none;
-        room = ltb-false (length page) (length next) (none-applies last refl none .0);
+        room = ltb-false (length page) (length next) (none-applies last refl none .1 .0);
       }
 
   module _ (a : NamedOn) where

@@ -6,15 +6,13 @@ use Prim.Native.Nat.{_≤_, _<_}
 use native.Mathlib.Omega.{arith}
 use borrow.Author.Tests.{ltb-true, lt-ltb, leb-true, le-leb, eqb-true, eq-eqb, not-false}
 use Rattle.theory.specs.Basics.{Bool, true, false, _&&_, List, [], _∷_, length, ℕ, suc, _^_}
-use Rattle.theory.specs.Basics.{_<?_, _≤?_, every}
-use Rattle.theory.specs.Basics.Laws.{Each, both}
+use Rattle.theory.specs.Basics.{_<?_, _≤?_, every, same}
+use Rattle.theory.specs.Basics.Laws.{Each, both, same-lists, same-self}
 use Rattle.theory.specs.Partition.{Parts, isPartition, degree}
-use Rattle.theory.specs.Listing.{same}
 use Rattle.theory.specs.Refusals.{firstOf}
 use Rattle.theory.specs.Refusals.Laws.{none-applies}
 use Rattle.text.specs.Text.{Text, ascii, decimal, integer, listText, textLine, field}
 use Rattle.text.specs.Reading.{numberIn, integerIn, listIn}
-use Rattle.text.specs.Reading.Bytes.{same-text, same-self}
 use Rattle.sessiontext.specs.SessionText.{held, waitingText}
 use Rattle.sessiontext.specs.Reading.{inLimit, isNumber, isInteger, isList, minusIn, shapeIn, classIn}
 use Rattle.sessiontext.specs.Reading.{isWaiting, at, following, lineFaults, faults, fault}
@@ -48,7 +46,7 @@ pub is-number : (name : Text) (bound : ℕ) (t : Text) → isNumber name bound t
 unfolding isNumber
 is-number name bound t e =
     let b = both (numberIn t <? bound) _ e in
-    record { small = ltb-true (numberIn t) bound (b .0); whole = same-text t _ (b .1) }
+    record { small = ltb-true (numberIn t) bound (b .0); whole = same-lists t _ (b .1) }
 
 pub number-is : {name : Text} {bound : ℕ} {t : Text} → Number name bound t → isNumber name bound t ≡ true
 unfolding isNumber
@@ -58,7 +56,7 @@ pub is-integer : (name t : Text) → isInteger name t ≡ true → Integer name 
 unfolding isInteger
 is-integer name t e =
     let b = both (held (integerIn t)) _ e in
-    record { fits = b .0; whole = same-text t _ (b .1) }
+    record { fits = b .0; whole = same-lists t _ (b .1) }
 
 pub integer-is : {name t : Text} → Integer name t → isInteger name t ≡ true
 unfolding isInteger
@@ -76,7 +74,7 @@ pub is-list : (limit : ℕ) (name t : Text) → isList limit name t ≡ true →
 unfolding isList
 is-list limit name t e =
     let b = both (inLimit limit (listIn t)) _ e in
-    record { within = in-limit limit (listIn t) (b .0); whole = same-text t _ (b .1) }
+    record { within = in-limit limit (listIn t) (b .0); whole = same-lists t _ (b .1) }
 
 pub list-is : {limit : ℕ} {name t : Text} → Listed limit name t → isList limit name t ≡ true
 unfolding isList
@@ -90,7 +88,7 @@ is-waiting limit t e =
     record {
       shape = in-limit limit (shapeIn t) (a .0);
       class = in-limit limit (classIn t) (a .1);
-      whole = same-text t _ (b .1);
+      whole = same-lists t _ (b .1);
     }
 
 pub waiting-is : {limit : ℕ} {t : Text} → Waiting limit t → isWaiting limit t ≡ true
@@ -141,7 +139,7 @@ module _ (limit : ℕ) where
           class = is-list limit _ _ (not-false _ (h .0));
           steps = is-number _ _ _ (not-false _ (h .1 .0));
           settled = is-integer _ _ (not-false _ (h .1 .1 .0));
-          count = same-text _ _ (not-false _ (h .1 .1 .1 .0));
+          count = same-lists _ _ (not-false _ (h .1 .1 .1 .0));
           lines = all-waiting 7 (following text) (h .1 .1 .1 .1);
         }
 

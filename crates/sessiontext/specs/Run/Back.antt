@@ -6,11 +6,11 @@ use mathlib.Core.Path.{_≡_, sym, _∙_, ap}
 use mathlib.Core.List.{cons-ne-nil}
 use lib.IntN.{+ℤ-idl}
 use Rattle.theory.specs.Basics.{List, getD, take, ℕ, pos, _+ℤ_, natAbs}
+use Rattle.theory.specs.Basics.Laws.{same-self}
 use Rattle.theory.specs.Limits.{degreeLimit}
 use Rattle.words.specs.declared.CountAnswer.{CountAnswer}
 use Rattle.words.specs.Answers.{Outcome}
 use Rattle.text.specs.Text.{Text}
-use Rattle.text.specs.Reading.Bytes.{same-self}
 use Rattle.pages.specs.declared.Slip.{Slip}
 use Rattle.pages.specs.Line.{Line}
 use Rattle.pages.specs.Page.{waiting, padded}

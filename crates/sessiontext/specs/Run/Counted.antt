@@ -1,24 +1,26 @@
--- Where no load is accepted, the steps that count are the accepted steps of the calls.
---   isStep call           it is an accepted step; isLoad call, an accepted load
---   acceptedSteps calls   how many of the calls are accepted steps
+-- Where no load is accepted, the steps that count are the accepted commits of the calls.
+--   isStep call           it is an accepted commit; isLoad call, an accepted load
+--   acceptedSteps calls   how many of the calls are accepted commits
 --   Unloaded calls        none of them is an accepted load
 use mathlib.Core.Path.{_≡_, refl}
 use native.Mathlib.Omega.{arith}
 use borrow.Author.Tests.{not-true}
 use Rattle.theory.specs.Basics.{Bool, true, false, not, cond, List, [], _∷_, length, ℕ, _+_, _=?_, keep, count, every}
 use Rattle.theory.specs.Basics.Laws.{both}
-use Rattle.sessiontext.specs.Run.{Call, opened, stepped, watched, saved, loaded, Standing, after, Run}
+use Rattle.sessiontext.specs.Run.{Call, opened, previewed, committed, watched, saved, loaded, Standing, after, Run}
 
 abbrev pub isStep : Call → Bool
 isStep (opened shape class a q) = false
-isStep (stepped line cycle a q) = a .refused =? 0
+isStep (previewed line cycle strip a left) = false
+isStep (committed line cycle strip a q) = a .refused =? 0
 isStep (watched kind line a) = false
 isStep (saved out a left) = false
 isStep (loaded text a q) = false
 
 abbrev pub isLoad : Call → Bool
 isLoad (opened shape class a q) = false
-isLoad (stepped line cycle a q) = false
+isLoad (previewed line cycle strip a left) = false
+isLoad (committed line cycle strip a q) = false
 isLoad (watched kind line a) = false
 isLoad (saved out a left) = false
 isLoad (loaded text a q) = a .refused =? 0
@@ -37,11 +39,12 @@ counts-more calls call = go (isStep call)
     go true = omega arith
     go false = omega arith
 
--- a call that is no accepted load counts itself, if it is an accepted step
+-- a call that is no accepted load counts itself, if it is an accepted commit
 counts : (now : Standing) (call : Call) → not (isLoad call) ≡ true
     → after now call .counted ≡ now .counted + cond (isStep call) 1 0
 counts now (opened shape class a q) e = omega arith
-counts now (stepped line cycle a q) e = refl
+counts now (previewed line cycle strip a left) e = omega arith
+counts now (committed line cycle strip a q) e = refl
 counts now (watched kind line a) e = omega arith
 counts now (saved out a left) e = omega arith
 counts now (loaded text a q) e = rw (not-true (a .refused =? 0) e) (omega arith)

@@ -41,15 +41,15 @@ module _ (shape class : ℕ) (p : List ℕ) (calls : List Call) (end : Standing)
     pub conserved : worth (end .slip) (waiting (end .slip) (end .page)) ≡ shapeOf shape on classOf class
     -- once no line waits, it is settled
     pub finished : end .slip .lines ≡ 0 → end .slip .settled ≡ shapeOf shape on classOf class
-    -- steps counts the accepted steps on the way from the opening to where the session stands, at most S(n)
+    -- steps counts the accepted commits on the way from the opening to where the session stands, at most S(n)
     pub counted : end .slip .steps ≡ pos (end .counted)
     pub bounded : end .counted ≤ S (degree (shapeOf shape))
-    -- with the watches struck, every other call answers the same, and the end is the same
+    -- with watches and previews struck, every other call answers the same, and the end is the same
     pub watch-free : Session degreeLimit shape class p (unwatched calls) end
     -- slip and page are sound, and the page is as long as it was
     pub still-sound : sound degreeLimit (end .slip) (end .page) ≡ true
     pub same-length : length (end .page) ≡ length p
-    -- to load a text that was saved in it puts it back at that save, later steps uncounted
+    -- to load a text that was saved in it puts it back at that save, later commits uncounted
     pub put-back : PutsBack
 
   -- what an accepted opening promised, of the answer and the page that came back

@@ -1,4 +1,4 @@
--- What every call of a run keeps: a step by its own laws, a load since its text is that of a session which kept it.
+-- What every call of a run keeps: a commit by its own laws, a load since its text is that of a session which kept it.
 --   Stored s p save   the text was saved of a slip and a page that s and p led to, with as many steps
 --   Stands s p now    s and p led to the slip and page of `now`, and to those of whatever was saved
 use mathlib.Core.Path.{_≡_, refl, sym, _∙_, ap}
@@ -7,14 +7,12 @@ use native.Mathlib.Omega.{arith}
 use lib.ListN.{length-map}
 use lib.Seq.{length-take-le}
 use borrow.Author.Tests.{eqb-true, eqb-false}
-use Rattle.theory.specs.Basics.{Bool, true, false, cond, List, [], _∷_, map, length, getD, take, ℕ, _=?_, keep}
-use Rattle.theory.specs.Basics.Laws.{Each}
-use Rattle.theory.specs.Listing.{same}
+use Rattle.theory.specs.Basics.{Bool, true, false, cond, List, [], _∷_, map, length, getD, take, ℕ, _=?_, keep, same}
+use Rattle.theory.specs.Basics.Laws.{Each, same-lists}
 use Rattle.theory.specs.Limits.{degreeLimit, pageLimit}
 use Rattle.words.specs.declared.CountAnswer.{CountAnswer}
 use Rattle.words.specs.Answers.{Outcome}
 use Rattle.text.specs.Text.{Text}
-use Rattle.text.specs.Reading.Bytes.{same-text}
 use Rattle.pages.specs.declared.Slip.{Slip}
 use Rattle.characters.specs.declared.Handed.{Handed}
 use Rattle.pages.specs.Line.{Line}
@@ -26,9 +24,9 @@ use Rattle.characters.specs.Opening.Laws.{refused-opening}
 use Rattle.sessiontext.specs.SessionText.{sessionText}
 use Rattle.sessiontext.specs.Calls.{Loaded, loaded as loadedAs, saveInto, loadInto}
 use Rattle.sessiontext.specs.Calls.Laws.{saved-text, saved-loads, refused-load}
-use Rattle.sessiontext.specs.Run.{Call, opened, stepped, watched, saved, loaded, Saves, countsAt, Standing}
+use Rattle.sessiontext.specs.Run.{Call, opened, previewed, committed, watched, saved, loaded, Saves, countsAt, Standing}
 use Rattle.sessiontext.specs.Run.{Promised, Belongs, after, Run}
-use Rattle.sessiontext.specs.Run.Leads.{relaid, Leads, and-then, step-leads}
+use Rattle.sessiontext.specs.Run.Leads.{relaid, Leads, and-then, commit-leads}
 
 module _ (s : Slip) (p : List ℕ) where
   pub record Stored (save : Text × ℕ) : Type 0 where
@@ -99,7 +97,7 @@ module _ (s : Slip) (p : List ℕ) where
       go : (b : Bool) → same text (save .0) ≡ b
           → ((countsAt text saves ≡ [] → ⊥) → Stored (text, getD (countsAt text saves) 0 0)) → (Chosen b ≡ [] → ⊥)
           → Stored (text, getD (Chosen b) 0 0)
-      go true x earlier some = rw (same-text text (save .0) x) (e .0)
+      go true x earlier some = rw (same-lists text (save .0) x) (e .0)
       go false x earlier some = earlier some
 
   -- ---- a call
@@ -109,11 +107,12 @@ module _ (s : Slip) (p : List ℕ) where
       let number = ap (λ (h : Handed). h .refused) (o .answers) in
       let e : q ≡ now .page = o .leaves ∙ refused-opening degreeLimit shape class (now .page) (λ z. b (number ∙ z)) in
       rw e w
-  call-stands now (stepped line cycle a q) o b w =
+  call-stands now (previewed line cycle strip a left) o b w = w
+  call-stands now (committed line cycle strip a q) o b w =
       record {
         leads = and-then (w .leads)
             (rw (o .answers, o .leaves)
-            (step-leads degreeLimit (now .slip) (now .page) line cycle (w .leads .soundness)));
+            (commit-leads degreeLimit (now .slip) (now .page) line cycle strip (w .leads .soundness)));
         stored = w .stored;
       }
   call-stands now (watched kind line a) o b w = w

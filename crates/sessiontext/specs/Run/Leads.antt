@@ -1,4 +1,4 @@
--- What a step keeps, accepted or refused, on any sound slip and page, whoever wrote it.
+-- What a commit keeps, accepted or refused, on any sound slip and page, whoever wrote it.
 --   Leads limit s p k t q   with k steps that count, slip s and page p become the sound slip t and page q, worth the
 --                           same, of the same shape and class, on a page of the same length
 use mathlib.Core.Path.{_≡_, refl, sym, _∙_, ap}
@@ -6,18 +6,17 @@ use lib.Dec.{eqb·suc-zero}
 use lib.IntN.{+ℤ-assoc, +ℤ-idr}
 use Rattle.theory.specs.Basics.{cond, List, length, ℕ, zero, suc, _+_, pos, _+ℤ_, _=?_}
 use Rattle.theory.specs.Limits.{degreeLimit}
-use Rattle.theory.specs.Refusals.{firstOf, refusedOr}
+use Rattle.theory.specs.Refusals.{firstOf}
 use Rattle.words.specs.Answers.{Outcome}
 use Rattle.text.specs.Text.{Text}
 use Rattle.pages.specs.declared.Slip.{Slip}
 use Rattle.characters.specs.declared.Handed.{Handed}
 use Rattle.pages.specs.Line.{Line}
 use Rattle.pages.specs.Page.{waiting, padded, worth}
-use Rattle.characters.specs.Opening.{handed}
 use Rattle.pages.specs.Page.Padded.{length-padded}
 use Rattle.pages.specs.Sound.Laws.{Sound}
 use Rattle.pages.specs.Sound.Padded.{waiting-padded}
-use Rattle.characters.specs.Step.{nextLines, nextSlip, stepChecks, step}
+use Rattle.characters.specs.Step.{nextLines, nextSlip, commitChecks, finished, commit}
 use Rattle.characters.specs.Step.Laws.{accepted, next-plain, next-sound-page, next-worth-page}
 use Rattle.sessiontext.specs.Calls.{Loaded, loadInto}
 use Rattle.sessiontext.specs.Calls.Laws.{loaded-text}
@@ -60,16 +59,16 @@ module _ {limit : ℕ} {s : Slip} {p : List ℕ} where
     laid = λ e. m .laid (l .laid e);
   }
 
--- ---- a step
+-- ---- a commit
 abbrev one-if-accepted : Handed → ℕ
 one-if-accepted a = cond (a .refused =? 0) 1 0
 
 module _ (limit : ℕ) where
-  pub step-leads : (s : Slip) (p : List ℕ) (line cycle : ℕ) → Sound limit s p
-      → Leads limit s p (one-if-accepted (step limit s p line cycle .0)) (step limit s p line cycle .0 .slip)
-      (step limit s p line cycle .1)
-  unfolding step nextSlip
-  step-leads s p line cycle f = go (firstOf (stepChecks limit s p line cycle)) refl
+  pub commit-leads : (s : Slip) (p : List ℕ) (line cycle : ℕ) (strip : List ℕ) → Sound limit s p
+      → Leads limit s p (one-if-accepted (commit limit s p line cycle strip .0)) (commit limit s p line cycle strip .0 .slip)
+      (commit limit s p line cycle strip .1)
+  unfolding commit nextSlip
+  commit-leads s p line cycle strip f = go (firstOf (commitChecks limit s p line cycle strip)) refl
     where
       lines : List Line
       lines = waiting s p
@@ -78,12 +77,12 @@ module _ (limit : ℕ) where
       next = nextLines lines line cycle
 
       Given : ℕ → Handed × List ℕ
-      Given k = refusedOr k (λ j. (handed j s, p)) (handed 0 (nextSlip s lines line cycle), padded next p)
+      Given k = finished k s p line cycle
 
-      go : (k : ℕ) → firstOf (stepChecks limit s p line cycle) ≡ k
+      go : (k : ℕ) → firstOf (commitChecks limit s p line cycle strip) ≡ k
           → Leads limit s p (one-if-accepted (Given k .0)) (Given k .0 .slip) (Given k .1)
       go zero e =
-          let a = accepted limit s p line cycle e in
+          let a = accepted limit s p line cycle strip e in
           let long = length-padded next p (a .room) in
           record {
             soundness = next-sound-page limit s p line cycle a;
@@ -100,13 +99,13 @@ module _ (limit : ℕ) where
           }
       go (suc k) e = rw (eqb·suc-zero k) (stays f)
 
--- a step on what a load of any text gives, saved wherever it was
-pub foreign-step : (text : Text) (p : List ℕ) (line cycle : ℕ) {a : Loaded} {b : Handed} {q r : List ℕ}
+-- a commit on what a load of any text gives, saved wherever it was
+pub foreign-commit : (text : Text) (p : List ℕ) (line cycle : ℕ) (strip : List ℕ) {a : Loaded} {b : Handed} {q r : List ℕ}
     → Outcome (loadInto degreeLimit text p) a q → a .refused ≡ 0
-    → Outcome (step degreeLimit (a .slip) q line cycle) b r
+    → Outcome (commit degreeLimit (a .slip) q line cycle strip) b r
     → Leads degreeLimit (a .slip) q (one-if-accepted b) (b .slip) r
-foreign-step text p line cycle {a} {q = q} loads none steps =
+foreign-commit text p line cycle strip {a} {q = q} loads none commits =
     let number = ap (λ (x : Loaded). x .refused) (loads .answers) in
     let s : Sound degreeLimit (a .slip) q =
     rw (loads .answers, loads .leaves) (loaded-text text p (sym number ∙ none) .fair) in
-    rw (steps .answers, steps .leaves) (step-leads degreeLimit (a .slip) q line cycle s)
+    rw (commits .answers, commits .leaves) (commit-leads degreeLimit (a .slip) q line cycle strip s)

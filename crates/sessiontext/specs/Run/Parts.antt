@@ -4,12 +4,11 @@
 --   Known text saves               the text was saved
 use mathlib.Core.Path.{_≡_, refl, sym, _∙_}
 use mathlib.Core.List.{cons-ne-nil}
-use Rattle.theory.specs.Basics.{true, false, not, cond, List, [], _∷_, _++_, map, take, ℕ, _=?_, keep}
-use Rattle.theory.specs.Listing.{same}
+use Rattle.theory.specs.Basics.{true, false, not, cond, List, [], _∷_, _++_, map, take, ℕ, _=?_, keep, same}
 use Rattle.words.specs.Answers.Laws.{one-outcome}
 use Rattle.text.specs.Text.{Text}
 use Rattle.characters.specs.Opening.{opening}
-use Rattle.sessiontext.specs.Run.{Call, opened, stepped, watched, saved, loaded, Saves, countsAt, Standing}
+use Rattle.sessiontext.specs.Run.{Call, opened, previewed, committed, watched, saved, loaded, Saves, countsAt, Standing}
 use Rattle.sessiontext.specs.Run.{after, begun, Run, Session, isWatch, unwatched}
 
 module _ (limit : ℕ) where
@@ -45,7 +44,8 @@ module _ (limit : ℕ) where
       → Run limit now (cond (not (isWatch call)) (call ∷ calls) calls) end
   unfolding Run
   struck now (opened shape class a q) calls end r = r
-  struck now (stepped line cycle a q) calls end r = r
+  struck now (previewed line cycle strip a left) calls end r = r .2
+  struck now (committed line cycle strip a q) calls end r = r
   struck now (watched kind line a) calls end r = r .2
   struck now (saved out a left) calls end r = r
   struck now (loaded text a q) calls end r = r
@@ -80,7 +80,8 @@ module _ (text : Text) where
 
   call-knows : (now : Standing) (call : Call) → Known (now .saves) → Known (after now call .saves)
   call-knows now (opened shape class a q) k = k
-  call-knows now (stepped line cycle a q) k = k
+  call-knows now (previewed line cycle strip a left) k = k
+  call-knows now (committed line cycle strip a q) k = k
   call-knows now (watched kind line a) k = k
   call-knows now (saved out a left) k =
       let save : Text × ℕ = (take (a .count) left, now .counted) in

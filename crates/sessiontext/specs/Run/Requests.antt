@@ -1,5 +1,5 @@
--- A run's answers are determined by its requests (document 01, "no second outcome"): so to strike the watches alters no
--- other answer, whichever way one looks at it.
+-- A run's answers are determined by its requests (document 01, "no second outcome"), a commit's strip being part of what
+-- it asks: so to strike watches and previews alters no other answer, whichever way one looks at it.
 --   Request            a call without its answer; request call, what a call asked; requests calls, what all asked
 --   answered s p r     the call that asks r of slip s and page p, with the answer that is promised
 --   answers now rs     the calls that ask rs, one after the other
@@ -8,24 +8,26 @@ use Rattle.theory.specs.Basics.{List, [], _∷_, map, ℕ}
 use Rattle.text.specs.Text.{Text}
 use Rattle.pages.specs.declared.Slip.{Slip}
 use Rattle.characters.specs.Opening.{opening}
-use Rattle.characters.specs.Step.{step}
+use Rattle.characters.specs.Step.{preview, commit}
 use Rattle.characters.specs.Watch.{watch}
 use Rattle.characters.specs.Watch.Answers.{said, said-reads}
 use Rattle.sessiontext.specs.Calls.{saveInto, loadInto}
-use Rattle.sessiontext.specs.Run.{Call, opened, stepped, watched, saved, loaded, Standing, Promised, after}
+use Rattle.sessiontext.specs.Run.{Call, opened, previewed, committed, watched, saved, loaded, Standing, Promised, after}
 use Rattle.sessiontext.specs.Run.{begun, Run, Session, unwatched}
 use Rattle.sessiontext.specs.Run.Parts.{one-end, one-begun, session-unwatched}
 
 pub data Request : Type 0 where
   to-open : (shape class : ℕ) → Request
-  to-step : (line cycle : ℕ) → Request
+  to-preview : (line cycle : ℕ) (strip : List ℕ) → Request
+  to-commit : (line cycle : ℕ) (strip : List ℕ) → Request
   to-watch : (kind line : ℕ) → Request
   to-save : (out : Text) → Request
   to-load : (text : Text) → Request
 
 abbrev pub request : Call → Request
 request (opened shape class a q) = to-open shape class
-request (stepped line cycle a q) = to-step line cycle
+request (previewed line cycle strip a left) = to-preview line cycle strip
+request (committed line cycle strip a q) = to-commit line cycle strip
 request (watched kind line a) = to-watch kind line
 request (saved out a left) = to-save out
 request (loaded text a q) = to-load text
@@ -38,14 +40,18 @@ module _ (limit : ℕ) where
   abbrev answered : Slip → List ℕ → Request → Call
   answered s p (to-open shape class) =
       opened shape class (opening limit shape class p .0) (opening limit shape class p .1)
-  answered s p (to-step line cycle) = stepped line cycle (step limit s p line cycle .0) (step limit s p line cycle .1)
+  answered s p (to-preview line cycle strip) =
+      previewed line cycle strip (preview limit s p line cycle strip .0) (preview limit s p line cycle strip .1)
+  answered s p (to-commit line cycle strip) =
+      committed line cycle strip (commit limit s p line cycle strip .0) (commit limit s p line cycle strip .1)
   answered s p (to-watch kind line) = watched kind line (said (watch limit s p kind line))
   answered s p (to-save out) = saved out (saveInto limit s p out .0) (saveInto limit s p out .1)
   answered s p (to-load text) = loaded text (loadInto limit text p .0) (loadInto limit text p .1)
 
   as-promised : (s : Slip) (p : List ℕ) (call : Call) → Promised limit s p call → call ≡ answered s p (request call)
   as-promised s p (opened shape class a q) o = rw (o .answers, o .leaves)
-  as-promised s p (stepped line cycle a q) o = rw (o .answers, o .leaves)
+  as-promised s p (previewed line cycle strip a left) o = rw (o .answers, o .leaves)
+  as-promised s p (committed line cycle strip a q) o = rw (o .answers, o .leaves)
   as-promised s p (watched kind line a) o = ap (watched kind line) (sym (said-reads a) ∙ ap said o)
   as-promised s p (saved out a left) o = rw (o .answers, o .leaves)
   as-promised s p (loaded text a q) o = rw (o .answers, o .leaves)
@@ -79,7 +85,7 @@ one-session {limit} {calls = calls} {others = others} {end = end} {other = other
     ∙ sym (run-answered limit first others other r) in
     (same, one-end limit first others (rw same at (a .goes-on)) r)
 
--- if one asks what the other does but for the watches, every other call is answered the same, and they end alike
+-- if one asks what the other does but for watches and previews, every other call is answered the same, and they end alike
 pub one-session-unwatched : {limit shape class : ℕ} {p : List ℕ} {calls others : List Call} {end other : Standing}
     → Session limit shape class p calls end → Session limit shape class p others other
     → requests (unwatched calls) ≡ requests others → (unwatched calls ≡ others) × (end ≡ other)

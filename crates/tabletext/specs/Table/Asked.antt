@@ -8,13 +8,12 @@ use native.Mathlib.Omega.{arith}
 use borrow.Author.Tests.{lt-ltb, le-ltb}
 use lib.ListN.{length-append, length-take}
 use Rattle.theory.specs.Basics.{Bool, true, List, [], _∷_, ℕ, zero, suc, length, take}
-use Rattle.theory.specs.Basics.{every, downFrom}
-use Rattle.theory.specs.Basics.Laws.{Each, both}
+use Rattle.theory.specs.Basics.{every, downFrom, same}
+use Rattle.theory.specs.Basics.Laws.{Each, both, same-lists}
 use Rattle.theory.specs.Basics.Keep.{each-keep}
-use Rattle.theory.specs.Listing.{listing, same}
+use Rattle.theory.specs.Listing.{listing}
 use Rattle.text.specs.Text.{Text, decimal, field}
 use Rattle.text.specs.Text.Decimals.{decimal-length}
-use Rattle.text.specs.Reading.Bytes.{same-text}
 use Rattle.tabletext.specs.Table.{table, asked, chartable}
 
 abbrev pub asking : ℕ → Text
@@ -51,7 +50,7 @@ each-number P f = (f 0 (omega arith), each-down P 99 (λ n h. f n (omega arith))
 -- ---- one number, or none
 pub asked-for : (n : ℕ) → n < 100 → asked (asking n) ≡ n ∷ []
 unfolding asked decimal
-asked-for n h = same-text (asked (asking n)) (n ∷ []) (every-number (λ n. same (asked (asking n)) (n ∷ [])) refl n h)
+asked-for n h = same-lists (asked (asking n)) (n ∷ []) (every-number (λ n. same (asked (asking n)) (n ∷ [])) refl n h)
 
 pub one-or-none : (input : Text) → (asked input ≡ []) ⊎ ((n : ℕ) × (n < 100) × (input ≡ asking n))
 unfolding asked
@@ -61,7 +60,7 @@ one-or-none input =
     go : (ns : List ℕ) → Each (λ n. (n < 100) × (same input (asking n) ≡ true)) ns
         → (ns ≡ []) ⊎ ((n : ℕ) × (n < 100) × (input ≡ asking n))
     go [] e = inl refl
-    go (n ∷ ns) e = inr (n, e .0 .0, same-text input (asking n) (e .0 .1))
+    go (n ∷ ns) e = inr (n, e .0 .0, same-lists input (asking n) (e .0 .1))
 
 -- ---- what is written
 module _ (limit : ℕ) (input : Text) where

@@ -1,14 +1,14 @@
 -- Document 01's sample of the table program, by computation.
 use mathlib.Core.Path.{_≡_, refl}
-use Rattle.theory.specs.Basics.{true, _++_}
+use Rattle.theory.specs.Basics.{true, _++_, same}
+use Rattle.theory.specs.Basics.Laws.{same-lists}
 use Rattle.theory.specs.Bounds.{factorial}
 use Rattle.theory.specs.Character.{character}
 use Rattle.theory.specs.ClassData.{classDivisor, classSize}
-use Rattle.theory.specs.Listing.{partitions, listing, same}
+use Rattle.theory.specs.Listing.{partitions, listing}
 use Rattle.theory.specs.Column.{column}
 use Rattle.theory.specs.Limits.{degreeLimit}
 use Rattle.text.specs.Text.{Text, ascii, decimal, integer, commas}
-use Rattle.text.specs.Reading.Bytes.{same-text}
 use Rattle.tabletext.specs.Table.{classText, classLines, table, asked, chartable}
 
 unfoldable pub degree-3 : Text
@@ -23,4 +23,4 @@ unfolding degree-3 chartable asked table classLines classText commas integer dec
 same-bytes = refl
 
 pub sample : chartable degreeLimit (ascii "degree=3\n") ≡ degree-3
-sample = same-text _ degree-3 same-bytes
+sample = same-lists _ degree-3 same-bytes

@@ -1,16 +1,17 @@
 -- Laws of the words of Basics.
-use mathlib.Core.Path.{_≡_, refl, sym, _∙_, ap}
+use mathlib.Core.Path.{_≡_, refl, sym, _∙_, ap, ap₂}
 use mathlib.Core.Bool.{false≢true}
 use mathlib.Core.List.{append-assoc, append-nil, List·Memᴰ, List·Memᴰ·head, List·Memᴰ·tail}
 use Prim.Native.Nat.{_≤_, _<_}
 use native.Mathlib.Nat.{add-zero, add-suc, suc-add}
 use native.Mathlib.Omega.{arith}
 use lib.Dec.{eqb}
+use borrow.Author.Tests.{eqb-true, eq-eqb}
 use lib.ListN.{length-append}
 use lib.IntN.{+ℤ-idl, +ℤ-assoc}
 use Rattle.theory.specs.Basics.{Bool, true, false, not, cond, _&&_, List, [], _∷_, _++_, map, length, getD, take}
-use Rattle.theory.specs.Basics.{ℕ, zero, suc, _+_, _*_, _%_, ℤ, _+ℤ_, odd, keep, count, joined}
-use Rattle.theory.specs.Basics.{total, sum, upFrom}
+use Rattle.theory.specs.Basics.{ℕ, zero, suc, _+_, _*_, _%_, ℤ, _+ℤ_, _=?_, odd, same, keep, count}
+use Rattle.theory.specs.Basics.{joined, total, sum, upFrom}
 pub use Rattle.theory.specs.Basics.{Each}
 
 -- ---- tests
@@ -29,6 +30,19 @@ odd-suc n = go (n % 2) (suc n % 2) (omega arith)
         let h : b ≡ 0 = omega arith in
         rw h refl
     go (suc (suc a)) b e = absurd (omega arith)
+
+-- ---- the same numbers
+pub same-lists : (ms ns : List ℕ) → same ms ns ≡ true → ms ≡ ns
+same-lists [] [] e = refl
+same-lists [] (n ∷ ns) e = absurd (false≢true e)
+same-lists (m ∷ ms) [] e = absurd (false≢true e)
+same-lists (m ∷ ms) (n ∷ ns) e =
+    let h = both (m =? n) (same ms ns) e in
+    ap₂ (λ (x : ℕ) (l : List ℕ). x ∷ l) (eqb-true m n (h .0)) (same-lists ms ns (h .1))
+
+pub same-self : (ms : List ℕ) → same ms ms ≡ true
+same-self [] = refl
+same-self (m ∷ ms) = rw (eq-eqb m m refl) (same-self ms)
 
 -- ---- numbers that go up
 up-from-last : (i n : ℕ) → upFrom i (suc n) ≡ upFrom i n ++ ((i + n) ∷ [])

@@ -10,11 +10,12 @@ use native.Mathlib.Omega.{arith}
 use lib.ListN.{length-append, length-map, List·getD-append}
 use lib.Seq.{getD-append-add}
 use borrow.Author.Tests.{eq-eqb, ne-eqb}
-use Rattle.theory.specs.Basics.{true, false, List, [], _∷_, _++_, map, ℕ, zero, suc, _+_, _-_, length, getD}
+use Rattle.theory.specs.Basics.{true, false, List, [], _∷_, _++_, map, ℕ, zero, suc, _+_, _-_, length, getD, same}
+use Rattle.theory.specs.Basics.Laws.{same-self}
 use Rattle.theory.specs.Basics.AtPlace.{each-at, map-at}
 use Rattle.theory.specs.Partition.{Parts, isPartition, degree}
 use Rattle.theory.specs.Partition.Laws.{front, first-degree}
-use Rattle.theory.specs.Listing.{listing, same, rankIn, rank, Before, larger, later}
+use Rattle.theory.specs.Listing.{listing, rankIn, rank, Before, larger, later}
 use Rattle.theory.specs.Listing.Laws.{partitionsUpTo, countMost, Built, done, stuck, too-large, fork, built}
 use Rattle.theory.specs.Listing.Laws.{length-built, count-too-large, count-fork, count-monotone}
 use Rattle.theory.specs.Listing.Order.{UpTo, partition-bound, partition-at, Falling, falling}
@@ -24,17 +25,13 @@ rankFrom p n [] = 0
 rankFrom p n (q ∷ qs) = (countMost p n - countMost q n) + rankFrom q (n - q) qs
 
 -- ---- what stands in a falling list is found there
-same-itself : (ps : Parts) → same ps ps ≡ true
-same-itself [] = refl
-same-itself (p ∷ ps) = rw (eq-eqb p p refl) (same-itself ps)
-
 not-same : {l m : Parts} → Before l m → same m l ≡ false
 not-same (larger {p = p} {q = q} h) = rw (ne-eqb q p (λ e. omega arith)) refl
 not-same (later {p = p} b) = rw (eq-eqb p p refl) (not-same b)
 
 rank-at : (list : List Parts) (i : ℕ) → Falling list → i < length list → rankIn (getD list i []) list ≡ i
 rank-at [] i f h = absurd (omega arith)
-rank-at (l ∷ list) zero f h = rw (same-itself l) refl
+rank-at (l ∷ list) zero f h = rw (same-self l) refl
 rank-at (l ∷ list) (suc i) f h =
     rw (not-same (each-at (Before l) list [] i (f .0) (omega arith))) (ap suc (rank-at list i (f .1) (omega arith)))
 

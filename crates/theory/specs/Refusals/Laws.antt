@@ -3,7 +3,7 @@
 --   Within limit w       a good shape word of a degree within the limit; WithinClass limit w, a good class word
 --   Matched limit s c    a good shape word and a good class word of one degree within the limit
 use mathlib.Core.Path.{_≡_, refl, sym, _∙_, ap}
-use Prim.Native.Nat.{_≤_}
+use Prim.Native.Nat.{_≤_, _<_}
 use native.Mathlib.Decide.{ℕ-discrete}
 use native.Mathlib.Omega.{arith}
 use borrow.Author.Tests.{ltb-false, not-false, eqb-true, eq-eqb, ltb-true, le-ltb}
@@ -64,6 +64,19 @@ none-applies (check ∷ checks) n e = go (check .0) refl e (none-applies checks 
         → (check .0 ≡ false) × Each (λ check. check .0 ≡ false) checks
     go true t e rest = absurd (omega (arith, ltb-true 0 (check .1) (numbers .0)))
     go false t e rest = (t, rest e)
+
+-- the number that refuses is one of theirs
+pub first-below : (bound : ℕ) (checks : List Check) → 0 < bound → every (λ check. check .1 <? bound) checks ≡ true
+    → firstOf checks < bound
+first-below bound [] some e = some
+first-below bound (check ∷ checks) some e = go (check .0) (first-below bound checks some (all .1))
+  where
+    all : (check .1 <? bound ≡ true) × (every (λ check. check .1 <? bound) checks ≡ true)
+    all = both (check .1 <? bound) (every (λ check. check .1 <? bound) checks) e
+
+    go : (b : Bool) → firstOf checks < bound → cond b (check .1) (firstOf checks) < bound
+    go true rest = ltb-true (check .1) bound (all .0)
+    go false rest = rest
 
 module _ (checks more : List Check) where
   -- checks that refuse are not asked again by those behind them

@@ -15,8 +15,8 @@ use Rattle.sessiontext.specs.Run.{Standing, after}
 use Rattle.sessiontext.specs.Run.Demand3.{Demand3, demand-3}
 use Rattle.zembrusha.specs.declared.Handed.{Handed}
 use Rattle.zembrusha.specs.Exports.{handedRun}
-use Rattle.zembrusha.specs.Session.{Call, opened, stepped, watched-whole, watched-ratio, watched-refusal, saved}
-use Rattle.zembrusha.specs.Session.{loaded, taken, takenCount, takenLoad, Promised, theirs, theirNext, Run}
+use Rattle.zembrusha.specs.Session.{Call, opened, previewed, committed, watched-whole, watched-ratio}
+use Rattle.zembrusha.specs.Session.{watched-refusal, saved, loaded, taken, takenCount, takenLoad, Promised, theirs, theirNext, Run}
 use Rattle.zembrusha.specs.Session.{allTheirs, Session, first}
 
 -- ---- a call
@@ -41,7 +41,9 @@ taken-outcome o = record { answers = ap taken (o .answers); leaves = o .leaves }
 call-calculated : (s : calculator-slip.Slip) (p : List ℕ) (call : Call) → Promised s p call
     → calculator.Promised degreeLimit s p (theirs s p call)
 call-calculated s p (opened shape class a q) o = taken-outcome o
-call-calculated s p (stepped line cycle a q) o = taken-outcome o
+call-calculated s p (previewed line cycle strip a left) o =
+    record { answers = ap takenCount (o .answers); leaves = o .leaves }
+call-calculated s p (committed line cycle strip a q) o = taken-outcome o
 call-calculated s p (watched-whole kind line z) o = said-watch degreeLimit s p kind line
 call-calculated s p (watched-ratio kind line x) o = said-watch degreeLimit s p kind line
 call-calculated s p (watched-refusal kind line k) o = said-watch degreeLimit s p kind line

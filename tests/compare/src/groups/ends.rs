@@ -1,6 +1,8 @@
-//! Characters by sessions: every shape on every class of at most six cycles, opened and struck in a random order until
-//! no line waits. What is settled then is the character. Each call gets what the library handed back before.
+//! Characters by sessions: every shape on every class of at most six cycles, opened and struck in a random order, each
+//! time by a preview and its commit, until no line waits. What is settled then is the character. Each call gets what
+//! the library handed back before.
 
+use super::strips::STRIP;
 use crate::calls;
 use crate::model::characters::Characters;
 use crate::model::sessions::Slip;
@@ -33,7 +35,7 @@ pub fn run(characters: &Characters, group: &mut Group) {
 }
 
 /// Opens a pair and strikes any line by any of its cycles until none waits or a call is refused. What the library
-/// handed back last, and how many steps it accepted.
+/// handed back last, and how many commits it accepted.
 fn struck_out(random: &mut Random, shape: u32, class: u32) -> (Slip, Vec<u64>, i64) {
     let opened = calls::open(shape, class, &[7; WORDS]);
     let ((mut refused, mut slip), mut page) = (opened.answer, opened.run);
@@ -41,8 +43,10 @@ fn struck_out(random: &mut Random, shape: u32, class: u32) -> (Slip, Vec<u64>, i
     while slip.lines > 0 && refused == 0 && struck < MOST_STEPS {
         let line = random.below(slip.lines as usize);
         let cycles = read_class(page[line] as u32).unwrap();
-        let stepped = calls::step(slip, &page, line as u64, (*random.pick(&cycles)).into());
-        ((refused, slip), page) = (stepped.answer, stepped.run);
+        let (line, cycle) = (line as u64, (*random.pick(&cycles)).into());
+        let strip = calls::preview(slip, &page, line, cycle, &[7; STRIP]).run;
+        let committed = calls::commit(slip, &page, line, cycle, &strip);
+        ((refused, slip), page) = (committed.answer.answer, committed.run);
         struck += i64::from(refused == 0);
     }
     (slip, page, struck)

@@ -1,6 +1,7 @@
 //! The examples of document 01 by its own numbers, and the largest character degrees of document 004.
 
 use crate::calls;
+use crate::lent::leaves;
 use crate::model::characters::Characters;
 use crate::model::sessions::Slip;
 use crate::model::words::pack_class;
@@ -48,7 +49,8 @@ fn words(group: &mut Group) {
     number(calls::character(SHAPE_2_1, 0x1000_0000), (-1, 0), "(2,1) on (3)");
 }
 
-/// E11, E12 and E13: from an opening on a page of two words, the strikes and what each leaves.
+/// E11, E12 and E13: from an opening on a page of two words, the strikes, each a preview and its commit, and what they
+/// leave. The line of a strike is the only new one, 0 where there is none.
 fn sessions(group: &mut Group) {
     let mut play = |name: &str, shape: u32, class: u32, strikes: &[(u64, u64, i64)]| {
         let opened = calls::open(shape, class, &[7, 7]);
@@ -56,10 +58,16 @@ fn sessions(group: &mut Group) {
         let mut page = vec![u64::from(shape) * (1 << 32) + u64::from(class), 0];
         group.same((opened.answer, opened.run), ((0, slip), page.clone()), || name.to_string());
         for &(cycle, line, settled) in strikes {
-            let stepped = calls::step(slip, &page, 0, cycle);
-            slip = Slip { settled, lines: u64::from(line != 0), steps: slip.steps + 1, ..slip };
+            let new: Vec<u64> = [line].into_iter().filter(|&line| line != 0).collect();
+            let strip = [&new[..], &[7; 3][new.len()..]].concat();
+            let previewed = calls::preview(slip, &page, 0, cycle, &[7; 3]);
+            let expected = leaves(leaves((new.len() as u64, 0), &page), &strip);
+            group.same(previewed, expected, || format!("{name}, preview of {cycle}"));
+            let committed = calls::commit(slip, &page, 0, cycle, &strip);
+            slip = Slip { settled, lines: new.len() as u64, steps: slip.steps + 1, ..slip };
             page = vec![line, 0];
-            group.same((stepped.answer, stepped.run), ((0, slip), page.clone()), || format!("{name}, strike {cycle}"));
+            let expected = leaves(leaves((0, slip), &strip), &page);
+            group.same(committed, expected, || format!("{name}, strike {cycle}"));
         }
     };
     play("E11", SHAPE_3_2, CLASS_3_2, &[(3, 0x9000_0000_2000_0000, 0), (2, 0, 1)]);
@@ -75,7 +83,30 @@ fn refused_sessions(group: &mut Group) {
     group.same(refused, (10, Slip::default()), || "degree 1 on an empty page".to_string());
     let opened = calls::open(SHAPE_2_1, CLASS_1_1_1, &[5]);
     let (slip, page) = (opened.answer.1, opened.run);
-    let stepped = calls::step(slip, &page, 0, 1);
-    group.same((stepped.answer, stepped.run), ((10, slip), page), || "(2,1) on (1^3) on one word".to_string());
-    group.same(calls::step(slip, &[0], 0, 1).answer, (7, slip), || "lines 1 with word 0".to_string());
+    // The new lines are (1,1) and (2), on (1,1).
+    let new = [0x1000_0000_6000_0000, 0x3000_0000_6000_0000];
+    let mut previewed = |before: &[u64], answer: (u64, u32), after: &[u64]| {
+        let previewed = calls::preview(slip, &page, 0, 1, before);
+        let length = before.len();
+        let what = || format!("(2,1) on (1^3) on one word, preview into {length} words");
+        group.same(previewed, leaves(leaves(answer, &page), after), what);
+    };
+    previewed(&[], (0, 18), &[]);
+    previewed(&[5], (0, 18), &[5]);
+    previewed(&[5; 2], (2, 0), &new);
+    previewed(&[5; 3], (2, 0), &[new[0], new[1], 5]);
+    let mut committed = |page: &[u64], strip: &[u64], refused: u32| {
+        let committed = calls::commit(slip, page, 0, 1, strip);
+        let what = || format!("(2,1) on (1^3) on {page:x?}, commit of {strip:x?}");
+        group.same(committed, leaves(leaves((refused, slip), strip), page), what);
+    };
+    committed(&page, &new, 10);
+    committed(&page, &[new[0], new[1], 5], 10);
+    committed(&page, &new[..1], 19);
+    committed(&page, &[], 19);
+    committed(&page, &[new[1], new[0]], 19);
+    committed(&[0], &new, 7);
+    committed(&[0], &[], 7);
+    let previewed = calls::preview(slip, &[0], 0, 1, &[]);
+    group.same(previewed, leaves(leaves((0, 7), &[0]), &[]), || "lines 1 with word 0, preview".to_string());
 }

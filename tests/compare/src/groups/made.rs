@@ -1,4 +1,4 @@
-//! States that no opening and step made: sound ones, damaged ones, and numbers that name no line and no cycle.
+//! States that no opening and commit made: sound ones, damaged ones, and numbers that name no line and no cycle.
 
 use super::draws::random_word;
 use crate::model::characters::Characters;
@@ -25,7 +25,7 @@ impl Room {
     }
 }
 
-fn random_line(characters: &Characters, random: &mut Random, degree: usize) -> Line {
+pub fn random_line(characters: &Characters, random: &mut Random, degree: usize) -> Line {
     let listing = &characters.listings[degree];
     let sign = if random.once_in(2) { 1 } else { -1 };
     Line { sign, shape: random.pick(listing).clone(), class: random.pick(listing).clone() }
@@ -112,7 +112,7 @@ fn damaged_settled(random: &mut Random, state: &(Slip, Vec<u64>)) -> i64 {
 }
 
 /// A line of any degree, of two degrees, of degree 0, or of any two words.
-fn damaged_line(characters: &Characters, random: &mut Random) -> u64 {
+pub fn damaged_line(characters: &Characters, random: &mut Random) -> u64 {
     let degrees = [random.below(17), random.below(17)];
     let line = random_line(characters, random, degrees[0]);
     let other = random_line(characters, random, degrees[1]);

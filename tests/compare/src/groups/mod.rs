@@ -7,11 +7,14 @@ pub mod examples;
 pub mod formulas;
 pub mod handmade;
 pub mod lists;
+pub mod long;
 mod made;
 pub mod pairs;
 pub mod sessions;
 pub mod sizes;
 mod storing;
+mod striking;
+pub mod strips;
 pub mod texts;
 pub mod words;
 mod work;
@@ -43,7 +46,36 @@ impl Tally {
     }
 
     pub fn said(&self) -> String {
+        format!("refusals {}", self.counts())
+    }
+
+    fn counts(&self) -> String {
         let counts: Vec<String> = self.0.iter().map(|(refused, times)| format!("{refused}: {times}")).collect();
-        format!("refusals {}", counts.join(" "))
+        counts.join(" ")
+    }
+}
+
+/// How often each refusal number was given, by kinds of cases.
+#[derive(Default)]
+pub struct Kinds(BTreeMap<&'static str, Tally>);
+
+/// The name of a kind of cases, and the refusal numbers that it has to meet, 0 for none.
+pub type Wanted = (&'static str, &'static [u32]);
+
+impl Kinds {
+    pub fn count(&mut self, kind: &'static str, refused: u32) {
+        self.0.entry(kind).or_default().count(refused);
+    }
+
+    /// The kinds that met a wanted number less than `times` times, with these numbers.
+    pub fn lacking(&self, wanted: &[Wanted], times: u64) -> Vec<(&'static str, Vec<u32>)> {
+        let none = Tally::default();
+        let each = wanted.iter().map(|(kind, met)| (*kind, self.0.get(kind).unwrap_or(&none).lacking(met, times)));
+        each.filter(|(_, lacking)| !lacking.is_empty()).collect()
+    }
+
+    pub fn said(&self) -> String {
+        let kinds: Vec<String> = self.0.iter().map(|(kind, tally)| format!("{kind} ({})", tally.counts())).collect();
+        kinds.join(" ")
     }
 }

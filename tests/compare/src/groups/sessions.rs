@@ -1,15 +1,18 @@
-//! Random sessions: 200,000 openings and steps, with saves and loads between them, over shapes of all degrees and pages
-//! of many lengths, with wrong lines, cycles, slips, pages and texts among them. After each, slip, page and watches are
-//! compared; after each that is accepted, what the library shows as settled (3) and as waiting (4), added up, with the
-//! character that the session began with.
+//! Random sessions: 200,000 openings and steps, each step a preview and its commit, with saves and loads between them,
+//! over shapes of all degrees and pages of many lengths, with wrong lines, cycles, strips, slips, pages and texts among
+//! them. After each, slip, page and watches are compared; after each that is accepted, what the library shows as
+//! settled (3) and as waiting (4), added up, with the character that the session began with. At the end the commits of
+//! a run are made once more, its watches and previews struck.
 
 use super::draws::{listed, random_parts, random_word};
 use super::made::{damaged, made_up, wrong_cycle, wrong_line};
 use super::storing::Store;
+use super::striking::Strikes;
+use super::strips::Named;
 use super::work::Work;
 use super::Tally;
 use crate::calls;
-use crate::lent::{leaves, Left};
+use crate::lent::leaves;
 use crate::model::characters::Characters;
 use crate::model::sessions::{self, Shown, Slip};
 use crate::model::words::{pack_class, pack_shape, read_pair};
@@ -32,8 +35,9 @@ pub struct Desk<'a> {
     pub group: &'a mut Group,
     work: Work,
     calls: usize,
-    called: Tally,
+    pub called: Tally,
     watched: Tally,
+    pub strikes: Strikes,
     pub store: Store,
 }
 
@@ -46,17 +50,20 @@ pub fn run(characters: &Characters, group: &mut Group) {
         calls: 0,
         called: Tally::default(),
         watched: Tally::default(),
+        strikes: Strikes::default(),
         store: Store::default(),
     };
     while desk.calls < CALLS {
         desk.session();
     }
-    let Desk { group, calls, called, watched, store, .. } = desk;
-    group.same(called.lacking(&[0, 1, 2, 3, 4, 5, 6, 7, 8, 9, 10], 100), vec![], || "refusals hardly met".to_string());
+    let Desk { group, calls, called, watched, strikes, store, .. } = desk;
+    let wanted = [0, 1, 2, 3, 4, 5, 6, 7, 8, 9, 10, 19];
+    group.same(called.lacking(&wanted, 100), vec![], || "refusals hardly met".to_string());
     group.same(watched.lacking(&[0, 6, 7, 8, 15], 1000), vec![], || "watch refusals hardly met".to_string());
-    group.note(format!("{calls} calls"));
+    group.note(format!("{calls} openings and steps"));
     group.note(called.said());
     group.note(format!("watches: {}", watched.said()));
+    strikes.close(group);
     store.close(group);
 }
 
@@ -65,26 +72,33 @@ impl Desk<'_> {
     fn session(&mut self) {
         let begun = if self.random.once_in(4) { Some(self.made_up()) } else { self.open() };
         let Some((mut state, mut total)) = begun else { return };
+        let mut run = state.clone();
         let mut left = 1 + self.random.below(40);
         self.conserve(&state, total);
         while self.watch(&state) && left > 0 {
             if self.calls == CALLS || state.0.lines == 0 && !self.random.once_in(4) {
-                return;
+                break;
             }
-            let next = match self.random.below(6) {
-                0 => {
-                    self.save(&state, total);
-                    None
+            match self.random.below(6) {
+                0 => self.save(&state, total),
+                1 => {
+                    if let Some(loaded) = self.load() {
+                        self.make_again(&run, &state);
+                        (state, total) = loaded;
+                        run = state.clone();
+                        self.conserve(&state, total);
+                    }
                 }
-                1 => self.load(),
-                _ => self.call(&state).map(|state| (state, total)),
-            };
-            if let Some(next) = next {
-                (state, total) = next;
-                self.conserve(&state, total);
+                _ => {
+                    if let Some(next) = self.call(&state) {
+                        state = next;
+                        self.conserve(&state, total);
+                    }
+                }
             }
             left -= 1;
         }
+        self.make_again(&run, &state);
     }
 
     /// A sound slip and page that no opening made, and what the model says that is settled and waits there.
@@ -118,70 +132,49 @@ impl Desk<'_> {
         let words = *random.pick(&LENGTHS);
         let before: Vec<u64> = (0..words).map(|_| random.next()).collect();
         let model = sessions::open(shape, class, words);
-        let state = self.hand(calls::open(shape, class, &before), Slip::default(), &before, model, "open")?;
-        let (rows, parts) = read_pair(shape, class).unwrap();
+        let refused = model.as_ref().err().copied().unwrap_or(0);
+        self.calls += 1;
+        self.called.count(refused);
+        let (slip, after) = model.unwrap_or((Slip::default(), before.clone()));
+        let answer = calls::open(shape, class, &before);
+        let state = (answer.answer.1, answer.run.clone());
+        self.group.same(answer, leaves((refused, slip), &after), || format!("open {shape:x} on {class:x}"));
+        let (rows, parts) = read_pair(shape, class).ok().filter(|_| refused == 0)?;
         Some((state, self.characters.character(&rows, &parts)))
     }
 
     /// A step on the state: a good one, one with a wrong line or cycle, or one on a damaged slip or page. What comes of
     /// the state, where it is not refused.
     fn call(&mut self, state: &State) -> Option<State> {
-        let (line, cycle) = self.drawn_step(state);
+        self.calls += 1;
+        let Named { line, cycle } = self.drawn_step(state);
         match self.random.below(8) {
             0 => {
                 let line = wrong_line(&mut self.random, state.0.lines, line);
-                self.step(state, line, cycle)
+                self.strike(state, Named { line, cycle })
             }
             1 => {
                 let cycle = wrong_cycle(&mut self.random, cycle);
-                self.step(state, line, cycle)
+                self.strike(state, Named { line, cycle })
             }
             2 | 3 => {
                 let state = damaged(self.characters, &mut self.random, state);
                 self.watch(&state);
-                self.step(&state, line, cycle);
+                self.aside(|desk| desk.strike(&state, Named { line, cycle }));
                 None
             }
-            _ => self.step(state, line, cycle),
+            _ => self.strike_sound(state, Named { line, cycle }),
         }
     }
 
     /// A waiting line and one of its cycles; where none waits, any two numbers.
-    fn drawn_step(&mut self, state: &State) -> (u64, u64) {
+    pub fn drawn_step(&mut self, state: &State) -> Named {
         let lines = sessions::sound(&state.0, &state.1).unwrap();
         if lines.is_empty() {
-            return (0, 1);
+            return Named { line: 0, cycle: 1 };
         }
         let line = self.random.below(lines.len());
-        (line as u64, u64::from(*self.random.pick(&lines[line].class)))
-    }
-
-    fn step(&mut self, state: &State, line: u64, cycle: u64) -> Option<State> {
-        let (slip, page) = state;
-        let model = sessions::step(slip, page, line, cycle);
-        self.hand(calls::step(*slip, page, line, cycle), *slip, page, model, "step")
-    }
-
-    /// Compares what an opening or a step hands back; when it is refused, that is this slip and the page as it was. The
-    /// library's slip and page, where the model does not refuse.
-    fn hand(
-        &mut self,
-        answer: Left<(u32, Slip), u64>,
-        slip: Slip,
-        page: &[u64],
-        model: Answer<State>,
-        what: &str,
-    ) -> Option<State> {
-        self.calls += 1;
-        self.called.count(*model.as_ref().err().unwrap_or(&0));
-        let expected = match &model {
-            Ok((slip, page)) => leaves((0, *slip), page),
-            Err(refused) => leaves((*refused, slip), page),
-        };
-        let number = self.calls;
-        let handed = model.is_ok().then(|| (answer.answer.1, answer.run.clone()));
-        self.group.same(answer, expected, || format!("{what}, call {number}"));
-        handed
+        Named { line: line as u64, cycle: u64::from(*self.random.pick(&lines[line].class)) }
     }
 
     /// What the library shows as settled and as waiting is, added up, what the session began with.

@@ -1,8 +1,9 @@
-//! Document 01, and P1 of document 02, once more, by other means than the library's, and with Vec, String and HashMap at will:
+//! Document 01, and P1 to P3 of document 02, once more, by other means than the library's, and with Vec, String and
+//! HashMap at will:
 //! - words are read and written as strings of digits;
 //! - characters come from permutation characters, made orthogonal: no hook, no sign rule and no beta-number;
 //! - what a strike leaves comes from the rules of 1954 on lists of rows;
-//! - a session is a Vec of lines, and its text is read by splitting.
+//! - a session is a Vec of lines, a strip is read as lines, and a text by splitting.
 //!
 //! A call that is refused is an `Err` with the refusal number.
 

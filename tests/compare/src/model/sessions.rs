@@ -3,7 +3,7 @@
 use super::characters::Characters;
 use super::partitions::{degree, factorial, strikes, without};
 use super::words::{pack_class, pack_shape, read_class, read_pair, read_shape};
-use super::{Answer, Parts};
+use super::{Answer, Parts, DEGREE_LIMIT};
 
 /// The longest page.
 pub const PAGE_LIMIT: usize = 4096;
@@ -95,24 +95,49 @@ fn sound_lines(slip: &Slip, page: &[u64]) -> Option<Vec<Line>> {
     (zeros && sums <= factorial(n) && slip.steps >= 0 && steps <= most_steps(n)).then_some(lines)
 }
 
-/// The slip and the page after a step. Refuses 6, 7, 8, 9, 10.
-pub fn step(slip: &Slip, page: &[u64], line: u64, cycle: u64) -> Answer<(Slip, Vec<u64>)> {
-    let mut lines = sound(slip, page)?;
-    if line >= lines.len() as u64 {
+/// What a strike makes of a session: the lines that stay, the new ones, and the sum of the signs that are settled.
+struct Struck {
+    staying: Vec<Line>,
+    new: Vec<Line>,
+    settled: i64,
+}
+
+/// Takes a line out and strikes a cycle from it. Refuses 6, 7, 8, 9.
+fn strike(slip: &Slip, page: &[u64], line: u64, cycle: u64) -> Answer<Struck> {
+    let mut staying = sound(slip, page)?;
+    if line >= staying.len() as u64 {
         return Err(8);
     }
-    let class = without(&lines[line as usize].class, cycle).ok_or(9u32)?;
-    let taken = lines.remove(line as usize);
-    let mut settled = slip.settled;
-    for (sign, shape) in strikes(&taken.shape, cycle as u8) {
-        let sign = taken.sign * sign;
-        if shape.is_empty() {
-            settled += sign;
-        } else {
-            lines.push(Line { sign, shape, class: class.clone() });
-        }
+    let class = without(&staying[line as usize].class, cycle).ok_or(9u32)?;
+    let taken = staying.remove(line as usize);
+    let left = strikes(&taken.shape, cycle as u8);
+    let all = left.into_iter().map(|(sign, shape)| Line { sign: taken.sign * sign, shape, class: class.clone() });
+    let (settled, new): (Vec<Line>, Vec<Line>) = all.partition(|line| line.shape.is_empty());
+    Ok(Struck { staying, new, settled: settled.iter().map(|line| line.sign).sum() })
+}
+
+/// The words of the new lines. Refuses 6, 7, 8, 9.
+pub fn new_words(slip: &Slip, page: &[u64], line: u64, cycle: u64) -> Answer<Vec<u64>> {
+    Ok(strike(slip, page, line, cycle)?.new.iter().map(Line::word).collect())
+}
+
+/// The count of the new lines, and the strip with them at its front. Refuses 6, 7, 8, 9, 18.
+pub fn preview(slip: &Slip, page: &[u64], line: u64, cycle: u64, strip: &[u64]) -> Answer<(u64, Vec<u64>)> {
+    let new = new_words(slip, page, line, cycle)?;
+    let behind = strip.get(new.len()..).ok_or(18u32)?;
+    Ok((new.len() as u64, [&new, behind].concat()))
+}
+
+/// The slip and the page after a commit. Refuses 6, 7, 8, 9, 19, 10.
+pub fn commit(slip: &Slip, page: &[u64], line: u64, cycle: u64, strip: &[u64]) -> Answer<(Slip, Vec<u64>)> {
+    let Struck { staying, new, settled } = strike(slip, page, line, cycle)?;
+    let front: Vec<Option<Line>> = strip.iter().take(new.len()).map(|&word| Line::read(word, DEGREE_LIMIT)).collect();
+    if front != new.iter().cloned().map(Some).collect::<Vec<_>>() {
+        return Err(19);
     }
+    let lines = [staying, new].concat();
     let page = written(&lines, page.len())?;
+    let settled = slip.settled + settled;
     Ok((Slip { settled, lines: lines.len() as u64, steps: slip.steps + 1, ..*slip }, page))
 }
 

@@ -5,11 +5,11 @@ use Rattle.sessiontests.proofs.runs.all.Statement.{statement}
 use Rattle.sessiontests.proofs.runs.all.Tie as tie
 
 abbrev Inv-loop : tie.InvT-loop
-Inv-loop board₀ page₀ twin₀ text₀ other₀ length stand₀ word₀ made₀ board page twin text other stand word made =
+Inv-loop board₀ page₀ twin₀ text₀ other₀ strip₀ size stand₀ word₀ made₀ board page twin text other strip stand w made =
     made ≤ 10000
 
 abbrev μ-loop : tie.MeasureT-loop
-μ-loop board₀ page₀ twin₀ text₀ other₀ length stand₀ word₀ made₀ board page twin text other stand word made =
+μ-loop board₀ page₀ twin₀ text₀ other₀ strip₀ size stand₀ word₀ made₀ board page twin text other strip stand w made =
     10000 - made
 
 slice-aggregate-save : tie.Need-slice-aggregate-save Inv-loop μ-loop
@@ -42,6 +42,9 @@ loop-holds c = search needs
 next-requires : tie.Need-next-requires Inv-loop μ-loop
 next-requires c κs = search needs
 
+next-requires-2 : tie.Need-next-requires-2 Inv-loop μ-loop
+next-requires-2 c κs = search needs
+
 turn-requires : tie.Need-turn-requires Inv-loop μ-loop
 turn-requires c κs = search needs
 
@@ -73,6 +76,7 @@ all-spec =
     watches-requires
     loop-holds
     next-requires
+    next-requires-2
     turn-requires
     add-made
     loop-less

@@ -2,8 +2,8 @@
 use mathlib.Core.Path.{_∙_, sym}
 use native.Mathlib.Omega.{arith}
 use Rattle.theory.specs.Basics.Keep.{same-test}
+use Rattle.theory.specs.Basics.Laws.{same-lists}
 use Rattle.text.specs.Text.{ascii, decimal, field}
-use Rattle.text.specs.Reading.Bytes.{same-text}
 use Rattle.sessiontext.specs.SessionText.Room.{number-length}
 use Rattle.sessiontext.specs.Reading.Forms.{self as same-is}
 use Rattle.sessiontext.proofs.Own.{Own, own, own-count}
@@ -41,7 +41,7 @@ returns c =
     let l = line (c .before .before .before) .front in
     let ask = c .same .ensures in
     let count = field "lines=" (decimal (c .before .before .before .before .before .before .before .args .count)) in
-    same-test _ _ (λ b. same-is (ask .0 b ∙ l)) (λ e. ask .1 (same-text _ count e ∙ sym l))
+    same-test _ _ (λ b. same-is (ask .0 b ∙ l)) (λ e. ask .1 (same-lists _ count e ∙ sym l))
 
 pub counts-spec : {M : Type 1} → statement M
 counts-spec =

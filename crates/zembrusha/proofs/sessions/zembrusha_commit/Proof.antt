@@ -1,16 +1,16 @@
--- `zembrusha::sessions::zembrusha_step` meets its contract: it hands on what the call answers.
+-- `zembrusha::sessions::zembrusha_commit` meets its contract: it hands on what the call answers.
 use borrow.Author.Needs.{needs}
 use Rattle.characters.specs.declared.Handed.{Handed}
 use Rattle.zembrusha.specs.Exports.{handedOver}
 use Rattle.zembrusha.proofs.HandedOn.{outcome-of}
-use Rattle.zembrusha.proofs.sessions.zembrusha_step.Statement.{statement}
-use Rattle.zembrusha.proofs.sessions.zembrusha_step.Tie as tie
+use Rattle.zembrusha.proofs.sessions.zembrusha_commit.Statement.{statement}
+use Rattle.zembrusha.proofs.sessions.zembrusha_commit.Tie as tie
 
 slip-in-requires : tie.Need-slip-in-requires
 slip-in-requires c κs = search needs
 
-step-requires : tie.Need-step-requires
-step-requires c κs = search needs
+commit-requires : tie.Need-commit-requires
+commit-requires c κs = search needs
 
 slip-out-requires : tie.Need-slip-out-requires
 slip-out-requires c κs = search needs
@@ -21,9 +21,9 @@ same-length c = search needs
 returns : tie.Need-returns
 returns c =
     let a = c .before .before .before .before in
-    let o = rw (a .before .before .slip-in .ensures) at (a .step .ensures) in
+    let o = rw (a .before .before .slip-in .ensures) at (a .commit .ensures) in
     outcome-of (λ (h : Handed). handedOver (h .refused) (h .slip)) (c .slip-out .ensures) o
 
-pub zembrusha-step-spec : {M : Type 1} → statement M
-zembrusha-step-spec =
-    tie.close (tie.spec slip-in-requires step-requires slip-out-requires same-length returns)
+pub zembrusha-commit-spec : {M : Type 1} → statement M
+zembrusha-commit-spec =
+    tie.close (tie.spec slip-in-requires commit-requires slip-out-requires same-length returns)

@@ -1,5 +1,5 @@
-/* Symmetrica: the whole table of each degree by chartafel, the best of some runs; then every single character of
-   degrees 12 and 14 by charvalue, mean and worst. Nanoseconds. */
+/* Symmetrica: the whole table of each degree by chartafel, the best of some runs; then single characters of
+   degrees 8, 12, 14 and 16 by charvalue, on average over all pairs and at worst. Nanoseconds. */
 #include <symmetrica/def.h>
 #include <symmetrica/macro.h>
 #include <time.h>
@@ -28,21 +28,33 @@ static void tables(void) {
     }
 }
 
-static void singles(int n) {
+/* The average is the best of some rounds over all pairs; the worst that of the pair whose best time is longest. */
+static void singles(int n, int rounds) {
     OP degree = callocobject(), parts = callocobject(), value = callocobject();
     M_I_I(n, degree);
     makevectorofpart(degree, parts);
     int count = S_V_LI(parts);
-    double total = 0, worst = 0;
+    double best = 1e18, worst = 0;
+    for (int round = 0; round < rounds; round++) {
+        double begun = now();
+        for (int i = 0; i < count; i++)
+            for (int j = 0; j < count; j++)
+                charvalue(S_V_I(parts, i), S_V_I(parts, j), value, NULL);
+        double took = now() - begun;
+        if (took < best) best = took;
+    }
     for (int i = 0; i < count; i++)
         for (int j = 0; j < count; j++) {
-            double begun = now();
-            charvalue(S_V_I(parts, i), S_V_I(parts, j), value, NULL);
-            double took = now() - begun;
-            total += took;
-            if (took > worst) worst = took;
+            double least = 1e18;
+            for (int run = 0; run < 5; run++) {
+                double begun = now();
+                charvalue(S_V_I(parts, i), S_V_I(parts, j), value, NULL);
+                double took = now() - begun;
+                if (took < least) least = took;
+            }
+            if (least > worst) worst = least;
         }
-    printf("single %d %.0f %.0f\n", n, total / count / count, worst);
+    printf("single %d %.0f %.0f\n", n, best / count / count, worst);
     freeall(degree);
     freeall(parts);
     freeall(value);
@@ -51,8 +63,10 @@ static void singles(int n) {
 int main(void) {
     anfang();
     tables();
-    singles(12);
-    singles(14);
+    singles(8, 200);
+    singles(12, 20);
+    singles(14, 5);
+    singles(16, 3);
     ende();
     return 0;
 }

@@ -1,4 +1,5 @@
 // Times of the library beside its peers, in one run on one machine. `bench/run` builds and starts it.
+mod characters;
 mod library;
 mod pages;
 mod periods;
@@ -95,38 +96,12 @@ fn whole_tables(gap: &[Vec<String>], symmetrica: &[Vec<String>]) {
     }
 }
 
-fn single_characters(symmetrica: &[Vec<String>]) {
-    println!("single character   average        worst          Symmetrica average (ratio) worst (ratio)");
-    for degree in [12u32, 14] {
-        let all = partitions(degree, degree);
-        let shapes: Vec<u32> = all.iter().map(|parts| shape_word(parts)).collect();
-        let classes: Vec<u32> = all.iter().map(|parts| class_word(parts)).collect();
-        let (mut total, mut worst, mut sum) = (0f64, 0f64, 0i64);
-        for &shape in &shapes {
-            for &class in &classes {
-                let took = best(1, || sum = sum.wrapping_add(library::character(shape, class)));
-                total += took;
-                worst = worst.max(took);
-            }
-        }
-        std::hint::black_box(sum);
-        let mean = total / (all.len() * all.len()) as f64;
-        let name = degree.to_string();
-        let theirs = found(symmetrica, &["single", &name], 0);
-        let their_worst = found(symmetrica, &["single", &name], 1);
-        println!(
-            "degree {degree:>2}     {:>9.2} µs {:>12.1} µs {:>12.2} µs ({:>5.1}) {:>14.0} µs ({:>5.1})",
-            mean / 1e3, worst / 1e3, theirs / 1e3, theirs / mean, their_worst / 1e3, their_worst / worst
-        );
-    }
-}
-
 fn main() {
     let peers = std::env::args().nth(1).expect("the folder of the peers");
     let gap = peer("gap", &["-q", &format!("{peers}/table.g")]);
     let symmetrica = peer(&format!("{peers}/../target/symmetrica"), &[]);
     whole_tables(&gap, &symmetrica);
-    single_characters(&symmetrica);
+    characters::times(|runs, work| best(runs, work), &symmetrica);
     let words: Vec<u32> = (0..=16).flat_map(|n| partitions(n, n)).map(|parts| class_word(&parts)).collect();
     periods::times(|runs, work| best(runs, work), &words);
     sessions::times(|runs, work| best(runs, work));

@@ -1,4 +1,6 @@
 pub mod HookSums
+pub mod SmallTables
+pub mod SmallWords
 pub mod Walks
 pub mod Evaluables
 pub mod LineValues

@@ -1,12 +1,11 @@
 -- The hook walk and the value: a shape word and a class that can be evaluated, struck by one cycle.
---   others w z         the class word w without its first cycle z: one shift drops it
---   FirstCycle s w z   the value on the class word w strikes the cycle z first
+--   FirstCycle s w z   the value of the shape word s on the class word w strikes the cycle z first
 use mathlib.Core.Path.{_≡_, refl, sym, ap}
 use Prim.Native.Nat.{_≤_, _<_}
-use native.Mathlib.Nat.{lt-of-le-of-lt, pos-of-ne-zero}
+use native.Mathlib.Nat.{lt-of-le-of-lt}
 use native.Mathlib.Omega.{arith}
 use lib.Count.{leadingZeros}
-use Rattle.theory.specs.Basics.{[], _∷_, ℕ, suc, _*_, _%_, _^_, pos, natAbs}
+use Rattle.theory.specs.Basics.{[], _∷_, ℕ, _^_, pos, natAbs}
 use Rattle.theory.specs.Partition.{Parts, degree}
 use Rattle.theory.specs.Partition.Laws.{NoZero, none, some}
 use Rattle.theory.specs.Digits.{digits, width}
@@ -14,8 +13,6 @@ use Rattle.theory.specs.ShapeWord.{shapeOf}
 use Rattle.theory.specs.ShapeWord.Good.{good-shape}
 use Rattle.theory.specs.ShapeWord.Laws.{rows-partition}
 use Rattle.theory.specs.ClassWord.{classOf}
-use Rattle.theory.specs.ClassWord.Laws.{parts-none}
-use Rattle.theory.specs.ClassWord.Reading.{first-part}
 use Rattle.theory.specs.Character.{_on_}
 use Rattle.theory.specs.Character.Order.{empty-on-empty}
 use Rattle.theory.specs.Hooks.{Hook}
@@ -27,7 +24,9 @@ use Rattle.theory.specs.Refusals.Laws.{Within}
 use Rattle.words.proofs.Factorials.{factorial-fits}
 use Rattle.pages.proofs.Signed.{carried, carried-is}
 use Rattle.characters.specs.Private.Evaluation.{Evaluable, hookSum}
+use Rattle.characters.specs.Private.SmallTables.{tableLimit}
 use Rattle.characters.proofs.HookSums.{Walk}
+use Rattle.characters.proofs.SmallWords.{others, Struck, struck-cycle}
 
 -- ---- what can be evaluated
 module _ {limit s : ℕ} {cs : Parts} (e : Evaluable limit s cs) where
@@ -86,26 +85,18 @@ pub value-none : {limit s : ℕ} → Evaluable limit s [] → shapeOf s on [] �
 value-none {limit} {s} e =
     empty-on-empty (shapeOf s) [] (rows-partition (digits width s)) refl (e .degrees) refl
 
-pub value-empty : {limit s : ℕ} → Evaluable limit s (classOf 0) → shapeOf s on classOf 0 ≡ pos 1
-value-empty e =
-    let none : classOf 0 ≡ [] = parts-none 0 width in
-    rw none (value-none (rw none at e))
-
--- the longest cycle is struck
-abbrev others : ℕ → ℕ → ℕ
-others w z = w * 2 ^ z % 2 ^ suc width % 2 ^ width
-
+-- the longest cycle of a class above degree 4 is struck
 pub record FirstCycle (s w z : ℕ) : Type 0 where
-  pub bits : z < 32
+  pub struck : Struck w z
   pub evaluable : Evaluable largestLimit s (z ∷ classOf (others w z))
   pub same : shapeOf s on classOf w ≡ shapeOf s on (z ∷ classOf (others w z))
 
-pub first-cycle : (s w : ℕ) → w < 2 ^ width → Evaluable largestLimit s (classOf w) → (w ≡ 0 → ⊥)
+pub first-cycle : (s w : ℕ) → w < 2 ^ width → Evaluable largestLimit s (classOf w) → tableLimit < degree (classOf w)
     → FirstCycle s w (leadingZeros 32 w)
 first-cycle s w l e more =
-    let struck = first-part width w (pos-of-ne-zero more) l in
+    let struck = struck-cycle w l more in
     record {
-      bits = omega (arith, struck .within);
+      struck = struck;
       evaluable = rw (struck .reads) at e;
       same = ap (λ (cs : Parts). shapeOf s on cs) (struck .reads);
     }

@@ -22,6 +22,16 @@ pub fn minus(shape: u32, length: u32, place: u32) -> bool
     (length + u32::count_ones(below)) % 2 == 1
 }
 
+// The same, of the digits where they stand. Nothing is kept for it from one hook to the next, which spares stack where
+// the walk of the hooks goes on into a further one; where it does not, the other is quicker.
+pub fn minus_in_place(shape: u32, length: u32, place: u32) -> bool
+    requires { ⌜ (length ≤ place) × (place < 31) ⌝ }
+    ensures { λ r. ⌜ r ≡ markedHook length shape place .minus ⌝ }
+{
+    let below = shape % (1 << place) - shape % (1 << (place - length));
+    (length + u32::count_ones(below)) % 2 == 1
+}
+
 // The word that the hook leaves: its two digits exchanged, and leading ones shifted out.
 pub fn leaves(shape: u32, length: u32, place: u32) -> u32
     requires { ⌜ (shape < 2 ^ width) × (length ≤ place) × (place < 31) ⌝ }

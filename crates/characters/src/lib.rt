@@ -21,7 +21,9 @@ mod lines;
 mod lookup;
 mod page;
 pub mod sessions;
+mod small_tables;
 mod tables;
+mod walking;
 
 // A slip with the refusal number beside it.
 pub struct Handed {

@@ -6,16 +6,17 @@
 use mathlib.Core.Path.{_≡_, refl, ap, ap₂, _∙_}
 use Prim.Native.Nat.{_≤_, _<_}
 use native.Mathlib.Nat.{add-zero, add-suc, suc-sub-suc, mul-one, pow-suc}
-use native.Mathlib.Nat.{lt-of-lt-of-le, lt-of-le-of-lt, lt-of-not-le, not-le-of-lt}
+use native.Mathlib.Nat.{lt-of-lt-of-le, lt-of-le-of-lt, lt-of-not-le, not-le-of-lt, pos-of-ne-zero}
+use native.Mathlib.Decide.{ℕ-discrete}
 use native.Mathlib.Omega.{arith}
 use lib.Pow.{pow-pos, pow-mono, pow-add, shl-lt}
-use lib.Count.{leadingZeros, leading-top, trailingZeros}
+use lib.Count.{leadingZeros, leading-top, trailingZeros, trailing-of-zero}
 use Rattle.theory.specs.Basics.{true, false, [], _∷_, _++_, ℕ, zero, suc, _+_, _-_, _*_, _/_, _%_, _^_}
 use Rattle.theory.specs.Basics.{length, drop}
 use Rattle.theory.specs.Partition.{Parts, degree}
 use Rattle.theory.specs.Digits.{Digits, digits, word}
 use Rattle.theory.specs.Digits.Laws.{one-shifted, digits-rest, digits-one, length-digits}
-use Rattle.theory.specs.Digits.Low.{digits-last, low-zero, low-one, lowest-digit}
+use Rattle.theory.specs.Digits.Low.{digits-last, low-zero, low-one, lowest-digit, trailing-more}
 use Rattle.theory.specs.ClassWord.{classDigits, partsAfter}
 use Rattle.theory.specs.ClassWord.Laws.{parts-front, word-parts}
 
@@ -70,6 +71,13 @@ class-degree zero x = unfold digits trailingZeros in refl
 class-degree (suc n) x = elim (lowest-digit n x) [
   | low-zero e d t ↦ rw (t, suc-sub-suc, d, parts-zero 0 (digits n (x / 2))) (class-degree n (x / 2))
   | low-one e d t ↦ rw (t, d) (omega (arith, degree-one 0 (digits n (x / 2)), length-digits n (x / 2)))
+]
+
+-- with a zero in front, as a word of 32 bits has one
+pub degree-told : (W x : ℕ) → x < 2 ^ W → degree (partsAfter 0 (digits W x)) ≡ W - trailingZeros (suc W) x
+degree-told W x h = elim (ℕ-discrete x 0) [
+  | yes e ↦ rw e (omega (arith, class-degree W 0, trailing-of-zero W, trailing-of-zero (suc W)))
+  | no f ↦ rw (trailing-more W x (pos-of-ne-zero f) h) (class-degree W x)
 ]
 
 -- ---- digits moved up

@@ -4,14 +4,14 @@
 -- Of the library: trailingZeros n x is how many zeros end the n digits of x.
 use mathlib.Core.Path.{_≡_, refl, sym, ap, ap₂, _∙_}
 use mathlib.Core.List.{reverse-append}
-use Prim.Native.Nat.{_<_}
-use native.Mathlib.Nat.{suc-sub-suc, div-one, sub-zero}
+use Prim.Native.Nat.{_≤_, _<_}
+use native.Mathlib.Nat.{suc-sub-suc, div-one, mod-one, sub-zero}
 use native.Mathlib.Numerals.{one-add}
 use native.Mathlib.Decide.{ℕ-discrete}
 use native.Mathlib.Omega.{arith}
-use lib.Count.{trailingZeros}
-use lib.Pow.{shr-shr}
-use Rattle.theory.specs.Basics.{true, false, [], _∷_, _++_, reverse, ℕ, zero, suc, _-_, _/_, _%_, _^_, odd}
+use lib.Count.{trailingZeros, trailing-le}
+use lib.Pow.{shr-shr, mod-pow-add}
+use Rattle.theory.specs.Basics.{true, false, [], _∷_, _++_, reverse, ℕ, zero, suc, _+_, _-_, _/_, _%_, _^_, odd}
 use Rattle.theory.specs.Digits.{Digits, digits, upToLastOne}
 use Rattle.theory.specs.Digits.LastOne.{last-one, last-zero}
 
@@ -66,4 +66,16 @@ trailing-more zero x p h = absurd (omega arith)
 trailing-more (suc n) x p h = elim (lowest-digit n x) [
   | low-zero e d t ↦ rw e (ap suc (trailing-more n (x / 2) (omega arith) (omega arith)))
   | low-one e d t ↦ rw e
+]
+
+-- a number with k zeros at its end is a multiple of 2^k
+pub trailing-multiple : (n k x : ℕ) → k ≤ trailingZeros n x → x % 2 ^ k ≡ 0
+trailing-multiple n zero x h = mod-one x
+trailing-multiple zero (suc k) x h = absurd (omega (arith, trailing-le 0 x))
+trailing-multiple (suc n) (suc k) x h = elim (lowest-digit n x) [
+  | low-zero e d t ↦
+      let half = trailing-multiple n k (x / 2) (omega arith) in
+      let one : k + 1 ≡ suc k = omega arith in
+      rw one at (mod-pow-add x k 1) ∙ rw (half, e)
+  | low-one e d t ↦ absurd (omega arith)
 ]

@@ -1,0 +1,125 @@
+// The character tables of degree 0 to 4 (document 02, P4), as document 000 kept them: one square table for each degree,
+// with a row for each class and in it a number for each shape, both by their ranks. A table is made on the stack where
+// it is used, so an evaluation takes the one row that it ends in out of it, and lends that.
+ghost use mathlib.Core.Path.{_≡_};
+ghost use mathlib.Core.Bool.{true};
+ghost use Prim.Native.Nat.{_^_, _<_, _≤_};
+ghost use Rattle.theory.specs.Basics.{length, _≤?_};
+ghost use Rattle.theory.specs.Partition.{degree};
+ghost use Rattle.theory.specs.Digits.{width};
+ghost use Rattle.theory.specs.ShapeWord.{shapeOf, goodShape};
+ghost use Rattle.theory.specs.ClassWord.{classOf};
+ghost use Rattle.theory.specs.Character.{_on_};
+ghost use Rattle.theory.specs.Listing.{listing, rank as rankOf};
+ghost use Rattle.theory.specs.Bounds.Laws.{largestLimit};
+ghost use Rattle.characters.specs.Private.Evaluation.{Evaluable};
+ghost use Rattle.characters.specs.Private.SmallTables.{tableLimit, SmallClass, SameColumn, TableRow, RowOf};
+ghost use Rattle.characters.specs.Private.SmallTables.{cyclesLeft};
+
+// The longest row has so many numbers.
+pub const ROW: usize = 5;
+
+const ZERO: [[i64; 1]; 1] = [[1]];
+
+const ONE: [[i64; 1]; 1] = [[1]];
+
+const TWO: [[i64; 2]; 2] = [[1, -1], [1, 1]];
+
+const THREE: [[i64; 3]; 3] = [[1, -1, 1], [1, 0, -1], [1, 2, 1]];
+
+const FOUR: [[i64; 5]; 5] = [
+    [1, -1, 0, 1, -1],
+    [1, 0, -1, 0, 1],
+    [1, -1, 2, -1, 1],
+    [1, 1, 0, -1, -1],
+    [1, 3, 2, 3, 1],
+];
+
+// The ranks of the words of degree 0 to 4. The ones of such a word stand among its first digits, four of a class and,
+// behind a zero, four of a shape: the number that these make says which hexadecimal digit here is its rank, the last
+// one being that of 0.
+const SHAPE_RANKS: u64 = 0x0010_0130_0201_0240;
+
+const CLASS_RANKS: u64 = 0x4231_3110_3120_1000;
+
+// Whether the degree of a class word is 4 or less.
+pub fn small(class: u32) -> bool
+    requires { ⌜ class < 2 ^ width ⌝ }
+    ensures { λ r. ⌜ r ≡ (degree (classOf class) ≤? tableLimit) ⌝ }
+{
+    27 <= u32::trailing_zeros(class)
+}
+
+// The rank of a shape word of degree 4 or less.
+pub fn shape_rank(shape: u32) -> usize
+    requires { ⌜ (goodShape shape ≡ true) × (degree (shapeOf shape) ≤ tableLimit) ⌝ }
+    ensures { λ r. ⌜ r ≡ rankOf (shapeOf shape) ⌝ }
+{
+    ((SHAPE_RANKS >> ((shape >> 26) * 4)) % 16) as usize
+}
+
+// The rank of a class word of degree 4 or less, whatever the order of its cycles.
+fn class_rank(class: u32) -> usize
+    requires { ⌜ SmallClass class ⌝ }
+    ensures { λ r. ⌜ SameColumn r (classOf class) ⌝ }
+{
+    ((CLASS_RANKS >> ((class >> 27) * 4)) % 16) as usize
+}
+
+// The row of a rank in the table for a class word of degree 4 or less, and zeros after it. The zeros behind the last
+// one tell the degree.
+fn table_row(class: u32, rank: usize) -> [i64; ROW]
+    requires { ⌜ SmallClass class × (rank < length (listing (degree (classOf class)))) ⌝ }
+    ensures { λ r. ⌜ TableRow (degree (classOf class)) rank r ⌝ }
+{
+    let zeros = u32::trailing_zeros(class);
+    if zeros == 27 {
+        return FOUR[rank];
+    }
+    if zeros == 28 {
+        let row = THREE[rank];
+        return [row[0], row[1], row[2], 0, 0];
+    }
+    if zeros == 29 {
+        let row = TWO[rank];
+        return [row[0], row[1], 0, 0, 0];
+    }
+    if zeros == 30 {
+        let row = ONE[rank];
+        return [row[0], 0, 0, 0, 0];
+    }
+    let row = ZERO[rank];
+    [row[0], 0, 0, 0, 0]
+}
+
+// The character of a shape word on a class word of its degree, which is 4 or less: the number at their ranks.
+pub fn look(shape: u32, class: u32) -> i64
+    requires { ⌜ SmallClass class × Evaluable largestLimit shape (classOf class) ⌝ }
+    ensures { λ r. ⌜ r ≡ shapeOf shape on classOf class ⌝ }
+{
+    let of_class = class_rank(class);
+    let of_shape = shape_rank(shape);
+    let row = table_row(class, of_class);
+    row[of_shape]
+}
+
+// What is left of a class word when the longest cycles are struck until its degree is 4 or less.
+fn cycles_left(class: u32) -> u32
+    requires { ⌜ class < 2 ^ width ⌝ }
+    ensures { λ r. ⌜ SmallClass r × (classOf r ≡ cyclesLeft (classOf class)) ⌝ }
+{
+    let mut left = class;
+    while !small(left) {
+        left = (left << u32::leading_zeros(left)) % 0x8000_0000;
+    }
+    left
+}
+
+// The row that an evaluation on a class word ends in.
+pub fn last_row(class: u32) -> [i64; ROW]
+    requires { ⌜ class < 2 ^ width ⌝ }
+    ensures { λ r. ⌜ RowOf r (cyclesLeft (classOf class)) ⌝ }
+{
+    let left = cycles_left(class);
+    table_row(left, class_rank(left))
+}

@@ -1,6 +1,7 @@
 /* stack.c: the stack that an evaluation takes. Every shape is asked for on every class of degrees 0 to 16, on a stack
- * that is painted before each call; what has lost its paint was written to. The deepest may take no more than LIMIT
- * bytes. Prints one line, 'ok ..' or 'FAILED ..', with what was seen. */
+ * that is painted before each call; what has lost its paint was written to. What a call of nothing takes is left out,
+ * and room that is set aside and not written to is not seen. The deepest may take no more than LIMIT bytes. Prints one
+ * line, 'ok ..' or 'FAILED ..', with what was seen. */
 #define _GNU_SOURCE
 
 #include <inttypes.h>
@@ -80,6 +81,10 @@ int main(void)
             shape = (uint32_t)zembrusha_shape_word(all[i].parts, all[i].count).number;
             for (size_t j = 0; j < count; j++) {
                 class_word = (uint32_t)zembrusha_class_word(all[j].parts, all[j].count).number;
+                if (zembrusha_character_refusal(shape, class_word) != 0) {
+                    puts("FAILED stack: a pair is refused");
+                    return EXIT_FAILURE;
+                }
                 size_t used = taken(zembrusha_character) - idle;
                 if (used > deepest) {
                     deepest = used;

@@ -2,7 +2,7 @@
 use crate::{class_word, found, library, partitions, shape_word};
 use std::hint::black_box;
 
-// The average is the best time of some rounds over all pairs, and the worst that of the pair whose best time is longest.
+// The average is of the best of some rounds over all pairs, the worst that of the pair whose best time is longest.
 pub fn times(best: impl Fn(u32, &mut dyn FnMut()) -> f64, symmetrica: &[Vec<String>]) {
     println!("single character   average        worst          Symmetrica average (ratio) worst (ratio)");
     for (degree, rounds) in [(8u32, 200u32), (12, 20), (14, 5), (16, 3)] {

@@ -1,19 +1,23 @@
 -- Laws of the tables of degree 0 to 4, and of their rows. What speaks of the numbers themselves is a computed test over
 -- all of them.
 --   tableColumns   for each degree with a table, the columns of its classes in listing order
+--   entry n r i    entry i of the row of rank r in the table of degree n
 --   Found w r n k  the degree of the class word w is n, and r is one of its k ranks
 use mathlib.Core.Path.{_≡_, refl, _∙_, ap}
 use Prim.Native.Nat.{_≤_, _<_}
 use native.Mathlib.Omega.{arith}
+use lib.Count.{trailingZeros}
 use lib.ListN.{length-append, length-map, List·getD-append}
 use borrow.Author.Tests.{leb-true}
-use Rattle.theory.specs.Basics.{true, List, [], _++_, map, length, getD, every, upFrom, ℕ, suc, _+_, _≤?_, ℤ, pos}
+use Rattle.theory.specs.Basics.{true, List, [], _++_, map, length, getD, every, upFrom}
+use Rattle.theory.specs.Basics.{ℕ, suc, _+_, _-_, _≤?_, ℤ, pos}
 use Rattle.theory.specs.Basics.AtPlace.{map-at, up-length, map-up-at, every-up}
 use Rattle.theory.specs.Partition.{Parts, degree}
 use Rattle.theory.specs.Digits.{digits, width}
 use Rattle.theory.specs.ShapeWord.{shapeOf}
 use Rattle.theory.specs.ShapeWord.Laws.{rows-partition}
 use Rattle.theory.specs.ClassWord.{classOf}
+use Rattle.theory.specs.ClassWord.Reading.{degree-told}
 use Rattle.theory.specs.Character.{_on_, character}
 use Rattle.theory.specs.Listing.{listing, partitions, rank, partitionCounts}
 use Rattle.theory.specs.Listing.Laws.{count-kept}
@@ -21,7 +25,8 @@ use Rattle.theory.specs.Listing.Ranks.{Stands, at-rank, listed}
 use Rattle.theory.specs.Column.{column}
 use Rattle.theory.specs.Column.Laws.{column-at, column-length}
 use Rattle.characters.specs.Private.Evaluation.{Evaluable}
-use Rattle.characters.specs.Private.SmallTables.{tableLimit, rowLength, smallTables, SameColumn, TableRow, RowOf}
+use Rattle.characters.specs.Private.SmallTables.{tableLimit, rowLength, smallTables, SmallClass, SameColumn}
+use Rattle.characters.specs.Private.SmallTables.{TableRow, RowOf}
 
 -- ---- the tables are those of 1954
 abbrev tableColumns : List (List (List ℤ))
@@ -32,40 +37,40 @@ unfolding smallTables column listing partitions character
 tables-computed = refl
 
 -- a row is the column of its class
-module _ (n r : ℕ) (small : n ≤ tableLimit) (listed : r < length (listing n)) where
+module _ (n r : ℕ) (small : n ≤ tableLimit) (within : r < length (listing n)) where
   pub table-column : getD (getD smallTables n []) r [] ≡ column (getD (listing n) r [])
   table-column =
       ap (λ (tables : List (List (List ℤ))). getD (getD tables n []) r []) tables-computed
       ∙ ap (λ (table : List (List ℤ)). getD table r [])
       (map-up-at (suc tableLimit) n (omega arith) (λ n. map column (listing n)) [])
-      ∙ map-at column (listing n) [] [] r listed
+      ∙ map-at column (listing n) [] [] r within
 
-  -- an entry is the character of its shape on its class
+  -- an entry is the character of its shape on its class: the rule of the tables, for readers
   pub table-entry : (i : ℕ) → i < length (listing n)
       → getD (getD (getD smallTables n []) r []) i (pos 0) ≡ getD (listing n) i [] on getD (listing n) r []
   table-entry i h =
       let class : Parts = getD (listing n) r [] in
-      let e = at-rank n r listed .of-degree in
+      let e = at-rank n r within .of-degree in
       rw table-column (rw e at (column-at class i (rw e h)))
 
   pub table-long : length (getD (getD smallTables n []) r []) ≡ length (listing n)
   table-long =
       let class : Parts = getD (listing n) r [] in
-      rw table-column (column-length class ∙ ap (λ (n : ℕ). length (listing n)) (at-rank n r listed .of-degree))
+      rw table-column (column-length class ∙ ap (λ (n : ℕ). length (listing n)) (at-rank n r within .of-degree))
 
 -- a row that is copied number by number, with others after it
-module _ (n r k : ℕ) (others : List ℤ) where
+module _ (n r k : ℕ) (after : List ℤ) where
   abbrev entry : ℕ → ℤ
   entry i = getD (getD (getD smallTables n []) r []) i (pos 0)
 
-  pub row-copied : length (listing n) ≡ k → k + length others ≡ rowLength
-      → TableRow n r (map entry (upFrom 0 k) ++ others)
+  pub row-copied : length (listing n) ≡ k → k + length after ≡ rowLength
+      → TableRow n r (map entry (upFrom 0 k) ++ after)
   row-copied size long =
       let whole : length (map entry (upFrom 0 k)) ≡ k = length-map (upFrom 0 k) entry ∙ up-length 0 k in
       record {
         long = rw (length-append, whole) long;
         holds = λ i h.
-            List·getD-append (map entry (upFrom 0 k)) others (pos 0) i (omega arith)
+            List·getD-append (map entry (upFrom 0 k)) after (pos 0) i (omega arith)
             ∙ map-up-at k i (omega arith) entry (pos 0);
       }
 
@@ -80,7 +85,8 @@ few-shapes n small =
     (every-up (suc tableLimit) n (omega arith) (λ n. length (listing n) ≤? rowLength) few-listed)
 
 module _ {row : List ℤ} where
-  pub row-of : {r : ℕ} {cs : Parts} → degree cs ≤ tableLimit → SameColumn r cs → TableRow (degree cs) r row → RowOf row cs
+  pub row-of : {r : ℕ} {cs : Parts} → degree cs ≤ tableLimit → SameColumn r cs → TableRow (degree cs) r row
+      → RowOf row cs
   row-of {r} {cs} small ranked t =
       let same = table-column (degree cs) r small (ranked .within) ∙ ranked .same in
       record { long = t .long; holds = λ i h. t .holds i h ∙ ap (λ (l : List ℤ). getD l i (pos 0)) same }
@@ -99,14 +105,14 @@ module _ {row : List ℤ} where
     row-within small = omega (arith, shape-stands .within, few-shapes (degree cs) small)
 
 -- ---- the degree that a branch has found
--- the zeros behind the last one of w say that its degree is n, and r is one of the k ranks there
 pub record Found (w r n k : ℕ) : Type 0 where
   pub of : degree (classOf w) ≡ n
   pub size : length (listing n) ≡ k
   pub within : r < k
 
-pub found : {w r : ℕ} (n : ℕ) → n ≤ tableLimit → r < length (listing (degree (classOf w))) → degree (classOf w) ≡ n
-    → Found w r n (getD partitionCounts n 0)
-found {w} {r} n small listed of =
+pub found : {w r : ℕ} (n : ℕ) → n ≤ tableLimit → SmallClass w → r < length (listing (degree (classOf w)))
+    → 31 - trailingZeros 32 w ≡ n → Found w r n (getD partitionCounts n 0)
+found {w} {r} n small s ranked zeros =
+    let of = degree-told width w (s .below) ∙ zeros in
     let size = count-kept n (omega arith) in
-    record { of = of; size = size; within = rw (of, size) at listed }
+    record { of = of; size = size; within = rw (of, size) at ranked }

@@ -1,8 +1,10 @@
 -- Laws of the words of degree 0 to 4, which are looked for in the tables, and of the cycles that are left. The ones of
 -- such a word stand among its first digits: the number that these make tells its rank, which is tested for all of them.
 --   smallUnit       2^27: a class word of degree 4 or less is a multiple of it
---   digitOf ns k    hexadecimal digit k of a number, the last one being digit 0
+--   digitOf x k     hexadecimal digit k of the number x, the last one being digit 0
+--   classRanks, shapeRanks   the two constants of the code that have the ranks as such digits
 --   classAt k       the class whose first four digits make the number k
+--   rankWithin k    whether its rank is in the list; rankedColumn k, the column of the class of that rank
 --   others w z      the class word w without its first cycle z: one shift drops it
 --   Struck w z      the first cycle of w, a class word above degree 4, is z
 use mathlib.Core.Path.{_≡_, refl, sym, _∙_, ap, subst}

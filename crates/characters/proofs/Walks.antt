@@ -7,7 +7,7 @@ use native.Mathlib.Omega.{arith}
 use lib.Count.{leadingZeros}
 use Rattle.theory.specs.Basics.{[], _∷_, ℕ, _^_, pos, natAbs}
 use Rattle.theory.specs.Partition.{Parts, degree}
-use Rattle.theory.specs.Partition.Laws.{NoZero, none, some}
+use Rattle.theory.specs.Partition.Laws.{NoZero, some}
 use Rattle.theory.specs.Digits.{digits, width}
 use Rattle.theory.specs.ShapeWord.{shapeOf}
 use Rattle.theory.specs.ShapeWord.Good.{good-shape}

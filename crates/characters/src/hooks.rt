@@ -23,7 +23,7 @@ pub fn minus(shape: u32, length: u32, place: u32) -> bool
 }
 
 // The same, of the digits where they stand. Nothing is kept for it from one hook to the next, which spares stack where
-// the walk of the hooks goes on into a further one; where it does not, the other is quicker.
+// the walk of the hooks goes on into a further one; the other is a little quicker.
 pub fn minus_in_place(shape: u32, length: u32, place: u32) -> bool
     requires { ⌜ (length ≤ place) × (place < 31) ⌝ }
     ensures { λ r. ⌜ r ≡ markedHook length shape place .minus ⌝ }

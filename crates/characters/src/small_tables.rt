@@ -35,14 +35,14 @@ const FOUR: [[i64; 5]; 5] = [
     [1, 3, 2, 3, 1],
 ];
 
-// The ranks of the words of degree 0 to 4. The ones of such a word stand among its first digits, four of a class and,
-// behind a zero, four of a shape: the number that these make says which hexadecimal digit here is its rank, the last
-// one being that of 0.
+// The ranks of the words of degree 0 to 4. The ones of such a word stand among its first digits: four of a class word,
+// before 27 others, and five of a shape word, before 26; the first of these five is a zero. The number that they make
+// says which hexadecimal digit here is its rank, the last one being that of 0. Digits that no word asks for are 0.
 const SHAPE_RANKS: u64 = 0x0010_0130_0201_0240;
 
 const CLASS_RANKS: u64 = 0x4231_3110_3120_1000;
 
-// Whether the degree of a class word is 4 or less.
+// Whether the degree of a class word is 4 or less: it is 31 less the zeros behind the last one, and 0 if there is none.
 pub fn small(class: u32) -> bool
     requires { ⌜ class < 2 ^ width ⌝ }
     ensures { λ r. ⌜ r ≡ (degree (classOf class) ≤? tableLimit) ⌝ }
@@ -67,7 +67,8 @@ fn class_rank(class: u32) -> usize
 }
 
 // The row of a rank in the table for a class word of degree 4 or less, and zeros after it. The zeros behind the last
-// one tell the degree.
+// one tell the degree. A table is made on the stack here; so this is called in two places, that no caller takes it in
+// and keeps the table under a walk. Small rows are read by single numbers, which is quicker.
 fn table_row(class: u32, rank: usize) -> [i64; ROW]
     requires { ⌜ SmallClass class × (rank < length (listing (degree (classOf class)))) ⌝ }
     ensures { λ r. ⌜ TableRow (degree (classOf class)) rank r ⌝ }
@@ -77,19 +78,15 @@ fn table_row(class: u32, rank: usize) -> [i64; ROW]
         return FOUR[rank];
     }
     if zeros == 28 {
-        let row = THREE[rank];
-        return [row[0], row[1], row[2], 0, 0];
+        return [THREE[rank][0], THREE[rank][1], THREE[rank][2], 0, 0];
     }
     if zeros == 29 {
-        let row = TWO[rank];
-        return [row[0], row[1], 0, 0, 0];
+        return [TWO[rank][0], TWO[rank][1], 0, 0, 0];
     }
     if zeros == 30 {
-        let row = ONE[rank];
-        return [row[0], 0, 0, 0, 0];
+        return [ONE[rank][0], 0, 0, 0, 0];
     }
-    let row = ZERO[rank];
-    [row[0], 0, 0, 0, 0]
+    [ZERO[rank][0], 0, 0, 0, 0]
 }
 
 // The character of a shape word on a class word of its degree, which is 4 or less: the number at their ranks.

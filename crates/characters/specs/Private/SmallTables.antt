@@ -1,12 +1,12 @@
 -- The tables of degree 0 to 4 (document 02, P4), and what the functions that look there are asked.
---   tableLimit       4: the greatest degree that has a table
---   smallTables      the tables of the degrees 0 to 4: a row for each class, and in it a number for each shape
---   rowLength        the longest row has so many numbers
---   SmallClass w     a class word whose degree is at most 4
---   SameColumn r cs  the class of rank r has the column of the cycles cs: they are its cycles, in any order
---   TableRow n r row five numbers that begin with the row of rank r in the table of degree n
---   RowOf row cs     five numbers that begin with the column of the cycles cs
---   cyclesLeft cs    what is left of the cycles cs when the first are struck until their degree is at most 4
+--   tableLimit        4: the greatest degree that has a table
+--   rowLength         5: the longest row has so many numbers
+--   smallTables       the tables of the degrees 0 to 4: a row for each class, and in it a number for each shape
+--   SmallClass w      a number of 31 digits whose parts, read as those of a class, have degree at most 4
+--   SameColumn r cs   the class of rank r has the column of the cycles cs, as it has if these are its own in any order
+--   TableRow n r row  five numbers that begin with the row of rank r in the table of degree n
+--   RowOf row cs      five numbers that begin with the column of the cycles cs
+--   cyclesLeft cs     what is left of the cycles cs when the first are struck until their degree is at most 4
 use mathlib.Core.Path.{_≡_}
 use Prim.Native.Nat.{_<_, _≤_}
 use Rattle.theory.specs.Basics.{cond, List, [], _∷_, length, getD, ℕ, _^_, _≤?_, ℤ, pos, negsuc}

@@ -54,7 +54,8 @@ sub-below-2 c =
 add-result : tie.Need-add-result
 add-result c =
     let a = c .args in
-    let few = ones-le (a .length) (below (a .shape) (a .length) (a .place) (c .pre .0)) (mod-lt _ (pow-pos (a .length))) in
+    let digits : ℕ = below (a .shape) (a .length) (a .place) (c .pre .0) in
+    let few = ones-le (a .length) digits (mod-lt _ (pow-pos (a .length))) in
     rw (
       one-shifted 32 (a .place) (omega arith),
       one-shifted 32 (a .place - a .length) (omega arith),

@@ -1,5 +1,4 @@
 -- `characters::small_tables::class_rank` meets its contract: the digit was tested for all numbers of four digits.
-use native.Mathlib.Omega.{arith}
 use borrow.Author.Needs.{needs}
 use Rattle.characters.proofs.SmallWords.{class-ranked}
 use Rattle.characters.proofs.small_tables.class_rank.Statement.{statement}

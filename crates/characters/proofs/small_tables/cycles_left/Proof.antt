@@ -25,7 +25,8 @@ loop-holds c = (c .pre, refl)
 small-requires : tie.Need-small-requires Inv-loop μ-loop
 small-requires c κs = c .loop .inv .0
 
-struck : (c : tie.Then1 Inv-loop μ-loop) → let left = c .before .before .loop .left in Struck left (leadingZeros 32 left)
+struck : (c : tie.Then1 Inv-loop μ-loop)
+    → let left = c .before .before .loop .left in Struck left (leadingZeros 32 left)
 struck c =
     let l = c .before .before .loop in
     let more = sym (c .before .small .ensures) ∙ not-true (c .before .small .result) (c .if1 .taken) in

@@ -1,6 +1,6 @@
 -- `characters::small_tables::table_row` meets its contract. The zeros behind the last one tell the degree; the table of
 -- that degree is the one that was computed, and its row is copied, whole or number by number.
-use mathlib.Core.Path.{_≡_, refl, _∙_}
+use mathlib.Core.Path.{refl, _∙_}
 use native.Mathlib.Omega.{arith}
 use mir.Facts.{toZ-ofZ}
 use borrow.Author.Needs.{needs, sfits-of}
@@ -18,8 +18,7 @@ four : (c : tie.Then1) → Found (c .before .args .class) (c .before .args .rank
 unfolding partitionCounts
 four c =
     let a = c .before in
-    let told = degree-told width (a .args .class) (a .pre .0 .below) in
-    found 4 (omega arith) (a .pre .1) (omega (arith, c .if1 .taken))
+    found 4 (omega arith) (a .pre .0) (a .pre .1) (omega (arith, c .if1 .taken))
 
 mul-result : tie.Need-mul-result
 mul-result c = record { fits = omega (arith, four c .within) }
@@ -39,110 +38,141 @@ returns c =
     })
 
 -- ---- degree 3
-three : (c : tie.Then2) → Found (c .before .before .args .class) (c .before .before .args .rank) 3 3
+three : (c : tie.Then2) → let a = c .before .before .args in Found (a .class) (a .rank) 3 3
 unfolding partitionCounts
 three c =
     let a = c .before .before in
-    let told = degree-told width (a .args .class) (a .pre .0 .below) in
-    found 3 (omega arith) (a .pre .1) (omega (arith, c .if2 .taken))
+    found 3 (omega arith) (a .pre .0) (a .pre .1) (omega (arith, c .if2 .taken))
 
-mul-row : tie.Need-mul-row
-mul-row c = record { fits = omega (arith, three c .within) }
+mul-t19 : tie.Need-mul-t19
+mul-t19 c = record { fits = omega (arith, three c .within) }
 
-array-copy-out-row : tie.Need-array-copy-out-row
-array-copy-out-row c = three c .within
+index-1-t24 : tie.Need-index-1-t24
+index-1-t24 c = three c .within
 
-array-copy-out-t29 : tie.Need-array-copy-out-t29
-array-copy-out-t29 c = search needs
+index-2-t24 : tie.Need-index-2-t24
+index-2-t24 c = search needs
 
-array-copy-out-t32 : tie.Need-array-copy-out-t32
-array-copy-out-t32 c = search needs
+mul-t29 : tie.Need-mul-t29
+mul-t29 c = record { fits = omega (arith, three (c .before) .within) }
 
-array-copy-out-t35 : tie.Need-array-copy-out-t35
-array-copy-out-t35 c = search needs
+index-1-t34 : tie.Need-index-1-t34
+index-1-t34 c = three (c .before) .within
+
+index-2-t34 : tie.Need-index-2-t34
+index-2-t34 c = search needs
+
+mul-t39 : tie.Need-mul-t39
+mul-t39 c = record { fits = omega (arith, three (c .before .before) .within) }
+
+index-1-t44 : tie.Need-index-1-t44
+index-1-t44 c = three (c .before .before) .within
+
+index-2-t44 : tie.Need-index-2-t44
+index-2-t44 c = search needs
 
 returns-2 : tie.Need-returns-2
 unfolding smallTables
 returns-2 c =
-    let f = three (c .before .before .before .before) in
-    rw (f .of, toZ-ofZ (sfits-of (c .before .before .t29 .given)), toZ-ofZ (sfits-of (c .before .t32 .given)), toZ-ofZ (sfits-of (c .t35 .given)))
-    (row-copied 3 (c .before .before .before .before .before .before .args .rank) 3 (pos 0 ∷ pos 0 ∷ []) (f .size) refl)
+    let f = three (c .before .before .before) in
+    let rank : ℕ = c .before .before .before .before .before .args .rank in
+    rw (
+      f .of,
+      toZ-ofZ (sfits-of (c .before .before .t24 .given)),
+      toZ-ofZ (sfits-of (c .before .t34 .given)),
+      toZ-ofZ (sfits-of (c .t44 .given)),
+    )
+    (row-copied 3 rank 3 (pos 0 ∷ pos 0 ∷ []) (f .size) refl)
 
 -- ---- degree 2
-two : (c : tie.Then3) → Found (c .before .before .before .args .class) (c .before .before .before .args .rank) 2 2
+two : (c : tie.Then3) → let a = c .before .before .before .args in Found (a .class) (a .rank) 2 2
 unfolding partitionCounts
 two c =
     let a = c .before .before .before in
-    let told = degree-told width (a .args .class) (a .pre .0 .below) in
-    found 2 (omega arith) (a .pre .1) (omega (arith, c .if3 .taken))
+    found 2 (omega arith) (a .pre .0) (a .pre .1) (omega (arith, c .if3 .taken))
 
-mul-row-2 : tie.Need-mul-row-2
-mul-row-2 c = record { fits = omega (arith, two c .within) }
+mul-t48 : tie.Need-mul-t48
+mul-t48 c = record { fits = omega (arith, two c .within) }
 
-array-copy-out-row-2 : tie.Need-array-copy-out-row-2
-array-copy-out-row-2 c = two c .within
+index-1-t53 : tie.Need-index-1-t53
+index-1-t53 c = two c .within
 
-array-copy-out-t45 : tie.Need-array-copy-out-t45
-array-copy-out-t45 c = search needs
+index-2-t53 : tie.Need-index-2-t53
+index-2-t53 c = search needs
 
-array-copy-out-t48 : tie.Need-array-copy-out-t48
-array-copy-out-t48 c = search needs
+mul-t57 : tie.Need-mul-t57
+mul-t57 c = record { fits = omega (arith, two (c .before) .within) }
+
+index-1-t62 : tie.Need-index-1-t62
+index-1-t62 c = two (c .before) .within
+
+index-2-t62 : tie.Need-index-2-t62
+index-2-t62 c = search needs
 
 returns-3 : tie.Need-returns-3
 unfolding smallTables
 returns-3 c =
-    let f = two (c .before .before .before) in
-    rw (f .of, toZ-ofZ (sfits-of (c .before .t45 .given)), toZ-ofZ (sfits-of (c .t48 .given)))
-    (row-copied 2 (c .before .before .before .before .before .before .args .rank) 2 (pos 0 ∷ pos 0 ∷ pos 0 ∷ []) (f .size) refl)
+    let f = two (c .before .before) in
+    let rank : ℕ = c .before .before .before .before .before .args .rank in
+    rw (f .of, toZ-ofZ (sfits-of (c .before .t53 .given)), toZ-ofZ (sfits-of (c .t62 .given)))
+    (row-copied 2 rank 2 (pos 0 ∷ pos 0 ∷ pos 0 ∷ []) (f .size) refl)
 
 -- ---- degree 1
-one : (c : tie.Then4) → Found (c .before .before .before .before .args .class) (c .before .before .before .before .args .rank) 1 1
+one : (c : tie.Then4) → let a = c .before .before .before .before .args in Found (a .class) (a .rank) 1 1
 unfolding partitionCounts
 one c =
     let a = c .before .before .before .before in
-    let told = degree-told width (a .args .class) (a .pre .0 .below) in
-    found 1 (omega arith) (a .pre .1) (omega (arith, c .if4 .taken))
+    found 1 (omega arith) (a .pre .0) (a .pre .1) (omega (arith, c .if4 .taken))
 
-mul-row-3 : tie.Need-mul-row-3
-mul-row-3 c = record { fits = omega (arith, one c .within) }
+mul-t65 : tie.Need-mul-t65
+mul-t65 c = record { fits = omega (arith, one c .within) }
 
-array-copy-out-row-3 : tie.Need-array-copy-out-row-3
-array-copy-out-row-3 c = one c .within
+index-1-t70 : tie.Need-index-1-t70
+index-1-t70 c = one c .within
 
-array-copy-out-t57 : tie.Need-array-copy-out-t57
-array-copy-out-t57 c = search needs
+index-2-t70 : tie.Need-index-2-t70
+index-2-t70 c = search needs
 
 returns-4 : tie.Need-returns-4
 unfolding smallTables
 returns-4 c =
-    let f = one (c .before .before) in
-    rw (f .of, toZ-ofZ (sfits-of (c .t57 .given)))
-    (row-copied 1 (c .before .before .before .before .before .before .args .rank) 1 (pos 0 ∷ pos 0 ∷ pos 0 ∷ pos 0 ∷ []) (f .size) refl)
+    let f = one (c .before) in
+    let rank : ℕ = c .before .before .before .before .before .args .rank in
+    rw (f .of, toZ-ofZ (sfits-of (c .t70 .given)))
+    (row-copied 1 rank 1 (pos 0 ∷ pos 0 ∷ pos 0 ∷ pos 0 ∷ []) (f .size) refl)
 
 -- ---- degree 0
-zeroth : (c : tie.Else4) → Found (c .before .before .before .before .args .class) (c .before .before .before .before .args .rank) 0 1
+zeroth : (c : tie.Else4) → let a = c .before .before .before .before .args in Found (a .class) (a .rank) 0 1
 unfolding partitionCounts
 zeroth c =
     let a = c .before .before .before .before in
     let told = degree-told width (a .args .class) (a .pre .0 .below) in
-    found 0 (omega arith) (a .pre .1)
-    (omega (arith, a .pre .0 .small, c .before .before .before .if1 .left, c .before .before .if2 .left, c .before .if3 .left, c .if4 .left))
+    found 0 (omega arith) (a .pre .0) (a .pre .1)
+    (omega (
+      arith,
+      a .pre .0 .small,
+      c .before .before .before .if1 .left,
+      c .before .before .if2 .left,
+      c .before .if3 .left,
+      c .if4 .left,
+    ))
 
-mul-row-4 : tie.Need-mul-row-4
-mul-row-4 c = record { fits = omega (arith, zeroth c .within) }
+mul-t73 : tie.Need-mul-t73
+mul-t73 c = record { fits = omega (arith, zeroth c .within) }
 
-array-copy-out-row-4 : tie.Need-array-copy-out-row-4
-array-copy-out-row-4 c = zeroth c .within
+index-1-t78 : tie.Need-index-1-t78
+index-1-t78 c = zeroth c .within
 
-array-copy-out-t66 : tie.Need-array-copy-out-t66
-array-copy-out-t66 c = search needs
+index-2-t78 : tie.Need-index-2-t78
+index-2-t78 c = search needs
 
 returns-5 : tie.Need-returns-5
 unfolding smallTables
 returns-5 c =
-    let f = zeroth (c .before .before) in
-    rw (f .of, toZ-ofZ (sfits-of (c .t66 .given)))
-    (row-copied 0 (c .before .before .before .before .before .before .args .rank) 1 (pos 0 ∷ pos 0 ∷ pos 0 ∷ pos 0 ∷ []) (f .size) refl)
+    let f = zeroth (c .before) in
+    let rank : ℕ = c .before .before .before .before .before .args .rank in
+    rw (f .of, toZ-ofZ (sfits-of (c .t78 .given)))
+    (row-copied 0 rank 1 (pos 0 ∷ pos 0 ∷ pos 0 ∷ pos 0 ∷ []) (f .size) refl)
 
 pub table-row-spec : {M : Type 1} → statement M
 table-row-spec =
@@ -151,22 +181,28 @@ table-row-spec =
     mul-result
     array-copy-out-result
     returns
-    mul-row
-    array-copy-out-row
-    array-copy-out-t29
-    array-copy-out-t32
-    array-copy-out-t35
+    mul-t19
+    index-1-t24
+    index-2-t24
+    mul-t29
+    index-1-t34
+    index-2-t34
+    mul-t39
+    index-1-t44
+    index-2-t44
     returns-2
-    mul-row-2
-    array-copy-out-row-2
-    array-copy-out-t45
-    array-copy-out-t48
+    mul-t48
+    index-1-t53
+    index-2-t53
+    mul-t57
+    index-1-t62
+    index-2-t62
     returns-3
-    mul-row-3
-    array-copy-out-row-3
-    array-copy-out-t57
+    mul-t65
+    index-1-t70
+    index-2-t70
     returns-4
-    mul-row-4
-    array-copy-out-row-4
-    array-copy-out-t66
+    mul-t73
+    index-1-t78
+    index-2-t78
     returns-5)

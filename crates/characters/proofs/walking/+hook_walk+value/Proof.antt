@@ -169,7 +169,8 @@ module _ (t : ℕ) where
   small-requires : value-lts.Need-small-requires value-calls value-at value.Post
   small-requires c κs = c .pre .1 .0 .0
 
-  few : (c : value-lts.Then1 value-calls value-at value.Post) → degree (classOf (c .before .before .args .class)) ≤ tableLimit
+  few : (c : value-lts.Then1 value-calls value-at value.Post)
+      → degree (classOf (c .before .before .args .class)) ≤ tableLimit
   few c = leb-true _ tableLimit (sym (c .before .small .ensures) ∙ c .if1 .taken)
 
   shape-rank-requires : value-lts.Need-shape-rank-requires value-calls value-at value.Post

@@ -8,7 +8,7 @@ from functools import lru_cache
 from itertools import groupby
 from math import factorial, lcm, perm
 
-LIMIT, PAGE = 16, 4096  # the largest degree, the longest page
+LIMIT, PAGE, LIST = 16, 4096, 4096  # the largest degree, the longest page and list of shapes
 
 
 # ---- partitions and words

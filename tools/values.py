@@ -14,7 +14,7 @@ random, one in an equation, and the checker has to refuse every such equation: s
     python3 tools/values.py --only commits,watches --seed 7    some notions, other random cases
     python3 tools/values.py --keep DIR       leave the equations in DIR, to be read
 
-Without options it compares some 45,000 values of 3,300 equations, in 200 seconds of processor time on as many cores as
+Without options it compares some 48,000 values of 3,400 equations, in 200 seconds of processor time on as many cores as
 there are up to four (five minutes were seen on two busy ones); longer where the crates have to be proved first.
 
 It is run by hand, and is no part of the gate. The exit status is 0 only if every value agrees and every changed one is
@@ -36,9 +36,9 @@ from math import factorial
 
 sys.dont_write_bytecode = True
 from model import (  # noqa: E402
-    LIMIT, PAGE, character, class_of, class_refusal, class_size, class_word, committed, first_of, hooks, line, line_word,
-    list_refusal, most_steps, opened, pair_refusal, partitions, period, previewed, shape_of, shape_refusal, shape_word,
-    sound, struck, transposed, watched)
+    LIMIT, LIST, PAGE, character, class_of, class_refusal, class_size, class_word, committed, first_of, hooks, line,
+    line_word, list_refusal, most_steps, opened, pair_refusal, partitions, period, previewed, shape_of, shape_refusal,
+    shape_word, sound, struck, transposed, watched)
 from texts import LEAST, MOST, by_hand, bytes_of, damaged, loaded, put_away, saved, taken_up  # noqa: E402
 
 CRATES = ['theory', 'text', 'words', 'listing', 'pages', 'characters', 'sessiontext']
@@ -251,10 +251,11 @@ def partition_rank(n, seed):
 
 @notion(least=LIMIT)
 def shape_words(n, seed):
-    """Shape words of shapes, and of their conjugates."""
+    """Shape words of shapes, and of their conjugates; and these shapes as old words."""
     for p in partitions(n):
         yield 'shapeWord ' + nats(p), nat(shape_word(p))
         yield 'conjugateWord ' + nat(shape_word(p)), nat(shape_word(transposed(p)))
+        yield 'oldWord ' + nat(shape_word(p)), nat(class_word(p))
 
 
 @notion(least=LIMIT)
@@ -267,9 +268,10 @@ def shapes_read(n, seed):
 
 @notion(least=LIMIT)
 def class_words(n, seed):
-    """Class words of classes."""
+    """Class words of classes; and the new words of these, as the old words of shapes."""
     for p in partitions(n):
         yield 'classWord ' + nats(p), nat(class_word(p))
+        yield 'newWord ' + nat(class_word(p)), nat(shape_word(p))
 
 
 @notion(least=LIMIT)
@@ -436,6 +438,29 @@ def parts_written(n, seed):
                 yield (call(name, nat(word(p)), nats(column)), 'counted %d %d %s' % (k, 0 if k else len(p), nats(left)))
 
 
+@notion(each=10)
+def lists_moved(n, seed):
+    """Lists of shapes moved from the old form and to it: of partitions of n and others, with no bad word, one or more,
+    in runs of their length and of another; at degree 0 the longest list and one word more too."""
+    r, words = random.Random('%s %s' % (seed, n)), some_words(seed, 120)
+    long = (LIST, LIST + 1)
+    cases = [([0] * count, [7] * room) for count in long for room in long] if n == 0 else []
+    for name, pack, read, refusal, packed in (('shapesFromOld', class_word, class_of, class_refusal, shape_word),
+                                              ('shapesToOld', shape_word, shape_of, shape_refusal, class_word)):
+        made = []
+        for _ in range(40):
+            given = [pack(r.choice(partitions(r.choice([n, n, r.randint(0, LIMIT)])))) for _ in range(r.randint(0, 7))]
+            for _ in range(r.choice([0, 0, 1, 2]) if given else 0):
+                given[r.randrange(len(given))] = r.choice(words)
+            room = max(0, len(given) + r.choice([0, 0, 0, 0, 0, 1, -1]))
+            made.append((given, [r.getrandbits(32) for _ in range(room)]))
+        for given, lent in cases + made:
+            bad = next(((refusal(w), i) for i, w in enumerate(given) if refusal(w)), (0, 0))
+            k, i = (20, 0) if len(given) != len(lent) or len(given) > LIST else bad
+            left = lent if k else [packed(read(w)) for w in given]
+            yield call(name, nats(given), nats(lent)), 'listed %d %d %s' % (k, i, nats(left))
+
+
 @notion(each=1, most=6)
 def columns_written(n, seed):
     """The call that writes a column: too short, and longer."""
@@ -581,6 +606,7 @@ CONSTRUCTORS = {
     'Rattle.theory.specs.Hooks': ['Hook'],
     'Rattle.theory.specs.ClassData.Periods': ['periodFrom'],  # of a file of laws, which `definitions` passes over
     'Rattle.words.specs.declared.CountAnswer': ['CountAnswer'],
+    'Rattle.words.specs.declared.ListAnswer': ['ListAnswer'],
     'Rattle.pages.specs.declared.Slip': ['Slip'],
     'Rattle.pages.specs.Line': ['Line'],
     'Rattle.characters.specs.declared.Handed': ['Handed'],
@@ -607,6 +633,9 @@ counted k n column = (countAnswer k n, column)
 
 abbrev filled : ℕ → ℕ → List ℤ → CountAnswer × List ℤ
 filled k n column = (countAnswer k n, column)
+
+abbrev listed : ℕ → ℕ → List ℕ → ListAnswer × List ℕ
+listed k i list = (listAnswer k i, list)
 
 abbrev put : Slip → List Line → Slip × List Line
 put slip lines = (slip, lines)

@@ -27,6 +27,7 @@ static const char *const REFUSALS[] = {
     [ZEMBRUSHA_BUFFER_TOO_SHORT] = "the text buffer is too short",
     [ZEMBRUSHA_STRIP_TOO_SHORT] = "the strip is too short",
     [ZEMBRUSHA_NOT_THAT_PREVIEW] = "the strip is not that preview",
+    [ZEMBRUSHA_BAD_LENGTHS] = "the lists have unequal lengths, or more than 4096 words",
 };
 
 /* What each line of a session's text has to be; the last stands for all that follow. */

@@ -18,8 +18,8 @@ enum zembrusha_refusal {
     ZEMBRUSHA_GIVEN = 0,             /* not refused */
     ZEMBRUSHA_BAD_SHAPE = 1,         /* shape word is 2^30 or more */
     ZEMBRUSHA_SHAPE_TOO_LARGE = 2,   /* shape degree above 16 */
-    ZEMBRUSHA_BAD_CLASS = 3,         /* class word has bit 31 set, or parts that rise; part list with a 0 or a rise */
-    ZEMBRUSHA_CLASS_TOO_LARGE = 4,   /* class degree above 16 */
+    ZEMBRUSHA_BAD_CLASS = 3,         /* class word or old shape with bit 31 or a rise; part list with a 0 or a rise */
+    ZEMBRUSHA_CLASS_TOO_LARGE = 4,   /* class degree, or that of an old shape, above 16 */
     ZEMBRUSHA_DEGREES_DIFFER = 5,    /* the degrees of shape and class differ */
     ZEMBRUSHA_PAGE_TOO_LONG = 6,     /* page longer than 4,096 words */
     ZEMBRUSHA_NOT_SOUND = 7,         /* slip and page not sound */
@@ -34,7 +34,8 @@ enum zembrusha_refusal {
     ZEMBRUSHA_BAD_TEXT = 16,         /* session's text not of its form: zembrusha_load says at which of its lines */
     ZEMBRUSHA_BUFFER_TOO_SHORT = 17, /* text buffer too short for the session's text */
     ZEMBRUSHA_STRIP_TOO_SHORT = 18,  /* strip too short for the preview */
-    ZEMBRUSHA_NOT_THAT_PREVIEW = 19  /* the strip's front is not the preview of that line and cycle */
+    ZEMBRUSHA_NOT_THAT_PREVIEW = 19, /* the strip's front is not the preview of that line and cycle */
+    ZEMBRUSHA_BAD_LENGTHS = 20       /* two lists of unequal lengths, or longer than 4,096 words */
 };
 
 /* The kinds of watches. */
@@ -46,13 +47,15 @@ enum zembrusha_kind {
     ZEMBRUSHA_STEPS = 5           /* whole: the steps so far */
 };
 
-/* The largest degree, the longest page, how many partitions the largest degree has (the longest column), as many words
- * as are enough for every preview, since a line of degree at most 16 has at most 16 hooks, and as many bytes as are
- * enough for every session's text: its first six lines have fewer than 256 together, and each waiting line has fewer
- * than 72, since a partition has at most 31, sixteen ones and the commas between them. 256 + 4,096 * 72. */
+/* The largest degree, the longest page, the longest list of shapes, how many partitions the largest degree has (the
+ * longest column), as many words as are enough for every preview, since a line of degree at most 16 has at most 16
+ * hooks, and as many bytes as are enough for every session's text: its first six lines have fewer than 256 together,
+ * and each waiting line has fewer than 72, since a partition has at most 31, sixteen ones and the commas between them.
+ * 256 + 4,096 * 72. */
 enum zembrusha_limit {
     ZEMBRUSHA_DEGREE_LIMIT = 16,
     ZEMBRUSHA_PAGE_LIMIT = 4096,
+    ZEMBRUSHA_LIST_LIMIT = 4096,
     ZEMBRUSHA_LONGEST_COLUMN = 231,
     ZEMBRUSHA_STRIP_ROOM = 16,
     ZEMBRUSHA_TEXT_ROOM = 295168
@@ -62,6 +65,13 @@ enum zembrusha_limit {
 struct zembrusha_number {
     uint32_t refused;
     uint64_t number;
+};
+
+/* What refuses a list of words: the refusal number in front, and the index of the first bad word, from 0; the index is
+ * 0 for every other answer. */
+struct zembrusha_listed {
+    uint32_t refused;
+    uint64_t index;
 };
 
 /* A session's slip: the shape and the class asked for, the settled sum, the number of waiting lines, the steps. */
@@ -149,6 +159,17 @@ struct zembrusha_number zembrusha_class_parts(uint32_t class, uint8_t *column, s
 /* The characters of all shapes of the class's degree on the class, in decreasing lexicographic order of the shapes, to
  * the front of the values, and their count; the rest of the values stays. Refuses 3, 4, 14. */
 struct zembrusha_number zembrusha_column(uint32_t class, int64_t *values, size_t length);
+
+/* ---- Whole lists of shapes, of at most 4,096 words: from the old form, in which an archive packs a shape as
+ * zembrusha_class_word packs a class, to shape words, and back. One run is read and one is written, of equal length;
+ * each word becomes that of the same partition in the other form, and there and back is the list again. All words are
+ * judged before the first is written. */
+
+/* Shape words of shapes in the old form. Refuses 20, then 3 or 4 for the first bad word, with its index. */
+struct zembrusha_listed zembrusha_shapes_from_old(const uint32_t *old, size_t count, uint32_t *new, size_t room);
+
+/* And back: shapes in the old form of shape words. Refuses 20, then 1 or 2 for the first bad word, with its index. */
+struct zembrusha_listed zembrusha_shapes_to_old(const uint32_t *new, size_t count, uint32_t *old, size_t room);
 
 /* ---- Sessions, on a page of 0 to 4,096 words that the caller lends. A waiting line is one word: bit 63 is set for a
  * minus sign, bits 62 to 32 are the shape word, bits 31 to 0 the class word. Slip and page are handed on together: an

@@ -6,6 +6,12 @@ pub struct Number {
 }
 
 #[repr(C)]
+struct Listed {
+    refused: u32,
+    index: u64,
+}
+
+#[repr(C)]
 #[derive(Clone, Copy, PartialEq)]
 pub struct Slip {
     pub shape: u32,
@@ -53,6 +59,8 @@ extern "C" {
     fn zembrusha_column(class: u32, values: *mut i64, length: usize) -> Number;
     fn zembrusha_character(shape: u32, class: u32) -> i64;
     fn zembrusha_class_period(class: u32) -> i64;
+    fn zembrusha_shapes_from_old(old: *const u32, count: usize, new: *mut u32, room: usize) -> Listed;
+    fn zembrusha_shapes_to_old(new: *const u32, count: usize, old: *mut u32, room: usize) -> Listed;
 }
 
 pub fn column(class: u32, values: &mut [i64]) -> usize {
@@ -65,6 +73,16 @@ pub fn character(shape: u32, class: u32) -> i64 {
 
 pub fn class_period(class: u32) -> i64 {
     unsafe { zembrusha_class_period(class) }
+}
+
+pub fn shapes_from_old(old: &[u32], new: &mut [u32]) -> (u32, u64) {
+    let answer = unsafe { zembrusha_shapes_from_old(old.as_ptr(), old.len(), new.as_mut_ptr(), new.len()) };
+    (answer.refused, answer.index)
+}
+
+pub fn shapes_to_old(new: &[u32], old: &mut [u32]) -> (u32, u64) {
+    let answer = unsafe { zembrusha_shapes_to_old(new.as_ptr(), new.len(), old.as_mut_ptr(), old.len()) };
+    (answer.refused, answer.index)
 }
 
 pub fn preview(slip: Slip, page: &[u64], line: u64, cycle: u64, strip: &mut [u64]) -> (u32, usize) {

@@ -1,6 +1,7 @@
 // Times of the library beside its peers, in one run on one machine. `bench/run` builds and starts it.
 mod characters;
 mod library;
+mod lists;
 mod pages;
 mod periods;
 mod sessions;
@@ -102,8 +103,10 @@ fn main() {
     let symmetrica = peer(&format!("{peers}/../target/symmetrica"), &[]);
     whole_tables(&gap, &symmetrica);
     characters::times(|runs, work| best(runs, work), &symmetrica);
-    let words: Vec<u32> = (0..=16).flat_map(|n| partitions(n, n)).map(|parts| class_word(&parts)).collect();
+    let all: Vec<Vec<u8>> = (0..=16).flat_map(|n| partitions(n, n)).collect();
+    let words: Vec<u32> = all.iter().map(|parts| class_word(parts)).collect();
     periods::times(|runs, work| best(runs, work), &words);
+    lists::times(|runs, work| best(runs, work), &all);
     sessions::times(|runs, work| best(runs, work));
     storing::times(|runs, work| best(runs, work));
 }

@@ -14,16 +14,16 @@ NUMBERS = {
 }
 STRUCTS = {
     'struct zembrusha_number': 'number', 'struct zembrusha_slip': 'slip', 'struct zembrusha_handed': 'handed',
-    'struct zembrusha_loaded': 'loaded',
-    'Number': 'number', 'Slip': 'slip', 'CSlip': 'slip', 'Handed': 'handed', 'Loaded': 'loaded',
+    'struct zembrusha_loaded': 'loaded', 'struct zembrusha_listed': 'listed',
+    'Number': 'number', 'Listed': 'listed', 'Slip': 'slip', 'CSlip': 'slip', 'Handed': 'handed', 'Loaded': 'loaded',
 }
 TYPES = NUMBERS | STRUCTS
 
-# The kinds of watches and the limits of document 01, as the header has to name them.
+# The kinds of watches and the limits of documents 01 and 02, as the header has to name them.
 KINDS = ['LINE_CHARACTER', 'LINE_RATIO', 'SETTLED', 'WAITING', 'STEPS']
 CONSTANTS = {
     'kind': {name: number for number, name in enumerate(KINDS, 1)},
-    'limit': {'DEGREE_LIMIT': 16, 'PAGE_LIMIT': 4096, 'LONGEST_COLUMN': 231, 'STRIP_ROOM': 16,
+    'limit': {'DEGREE_LIMIT': 16, 'PAGE_LIMIT': 4096, 'LIST_LIMIT': 4096, 'LONGEST_COLUMN': 231, 'STRIP_ROOM': 16,
               'TEXT_ROOM': 256 + 4096 * 72},
 }
 
@@ -45,6 +45,10 @@ CHANGES = [
     (r'int64_t settled;\s*uint64_t lines;', 'uint64_t lines; int64_t settled;'),
     (r'uint32_t class_word;', 'uint64_t class_word;'),
     (r'const uint8_t \*text', 'uint8_t *text'),
+    (r'const uint32_t \*old', 'uint32_t *old'),
+    (r'uint32_t \*new, size_t room', 'const uint32_t *new, size_t room'),
+    (r'const uint32_t \*new, size_t count, uint32_t \*old', 'const uint32_t *old, size_t count, uint32_t *new'),
+    (r'uint32_t refused;\s*uint64_t index;', 'uint64_t index; uint32_t refused;'),
     (r'uint64_t line;\s*struct zembrusha_slip slip;', 'struct zembrusha_slip slip; uint64_t line;'),
 ]
 
@@ -159,7 +163,7 @@ def faults(header, archive, rust, rattle):
     if archive_names(archive) != set(ours.functions):
         yield f'archive: {sorted(archive_names(archive) ^ set(ours.functions))} on one side only'
     yield from (f'no comment over {name}' for name in commented(header))
-    if refusals(header) != list(range(20)):
+    if refusals(header) != list(range(21)):
         yield f'refusal numbers: {refusals(header)}'
     for kind, named in CONSTANTS.items():
         if constants(header, kind) != named:

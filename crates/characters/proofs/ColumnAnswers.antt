@@ -15,13 +15,13 @@ use Rattle.theory.specs.Bounds.Laws.{largestLimit}
 use Rattle.theory.specs.Refusals.{firstOf, classChecks}
 use Rattle.theory.specs.Refusals.Laws.{within-class}
 use Rattle.words.specs.Answers.{Outcome, countAnswer, atFront}
+use Rattle.words.specs.Answers.Laws.{numbered-refusal}
 use Rattle.words.specs.declared.CountAnswer.{CountAnswer}
 use Rattle.words.specs.declared.NumberAnswer.{NumberAnswer}
 use Rattle.words.specs.Calls.{classPartsInto, classDegree}
 use Rattle.words.proofs.Answers.{column-refused, column-short, column-filled}
 use Rattle.words.proofs.Callers.{FrontGiven, number-given-by}
 use Rattle.listing.proofs.Ranks.{blank, class-refusal, parts-of-class}
-use Rattle.pages.proofs.WordPairs.{refused-is}
 use Rattle.pages.proofs.Signed.{carried, carried-is}
 use Rattle.characters.specs.Calls.{columnInto}
 use Rattle.characters.specs.Private.Columns.{Cycles}
@@ -31,7 +31,7 @@ pub refused-class : (limit w : ℕ) (a : NumberAnswer) → a ≡ classDegree lim
 unfolding columnInto classDegree
 refused-class limit w a e values =
     column-refused (classChecks limit w) 14 (column (classOf w)) values (a .refused)
-    (refused-is (classChecks limit w) _ a e)
+    (numbered-refusal (classChecks limit w) _ a e)
 
 pub record ClassGiven (limit w : ℕ) (a : NumberAnswer) : Type 0 where
   pub none : firstOf (classChecks limit w) ≡ 0

@@ -9,15 +9,15 @@ use mir.Syntax.{w64}
 use mir.Val.{ofZ}
 use native.Mathlib.Omega.{arith}
 use borrow.Author.Tests.{eq-eqb, ne-eqb}
-use Rattle.theory.specs.Basics.{Bool, true, false, cond, List, [], _∷_, ℕ, _=?_, ℤ, pos, natAbs}
+use Rattle.theory.specs.Basics.{Bool, true, false, cond, [], _∷_, ℕ, _=?_, pos, natAbs}
 use Rattle.theory.specs.Partition.{degree}
 use Rattle.theory.specs.ShapeWord.{shapeOf}
 use Rattle.theory.specs.ClassWord.{classOf}
 use Rattle.theory.specs.Bounds.Laws.{largestLimit}
-use Rattle.theory.specs.Refusals.{Check, firstOf, shapeChecks, classChecks, pairChecks, no-1, no-2, no-3, no-4, no-5}
+use Rattle.theory.specs.Refusals.{firstOf, shapeChecks, classChecks, pairChecks, no-1, no-2, no-3, no-4, no-5}
 use Rattle.theory.specs.Refusals.Laws.{or-given, answer-number, Within, within, Matched, matched}
-use Rattle.words.specs.Answers.{numberAnswer, numbered}
 use Rattle.words.specs.declared.NumberAnswer.{NumberAnswer}
+use Rattle.words.specs.Answers.Laws.{numbered-refusal}
 use Rattle.words.specs.Calls.{shapeDegree, classDegree}
 use Rattle.words.proofs.Callers.{number-given-by}
 use Rattle.pages.specs.declared.pairs.CommonDegree.{CommonDegree}
@@ -39,11 +39,6 @@ in-order false false false true rest = refl
 in-order false false false false rest = refl
 
 -- ---- what an answer tells
-pub refused-is : (checks : List Check) (z : ℤ) (a : NumberAnswer) → a ≡ numbered checks z → a .refused ≡ firstOf checks
-refused-is checks z =
-    answer-number (λ (x : NumberAnswer). x .refused) (λ k. numberAnswer k (pos 0)) (numberAnswer 0 z) (λ k. refl) refl
-    (firstOf checks)
-
 pub record DegreeGiven (limit s : ℕ) (a : NumberAnswer) : Type 0 where
   pub none : firstOf (shapeChecks limit s) ≡ 0
   pub within : Within limit s
@@ -77,8 +72,8 @@ module _ {limit s c : ℕ} {a b : NumberAnswer} (asked : Asked limit s c a b) wh
       ≡ inOrder (a .refused) (b .refused) (firstOf (no-5 (shapeOf s) (classOf c) ∷ []))
   unfolding shapeDegree classDegree
   order =
-      let by-shape = refused-is (shapeChecks limit s) _ a (asked .of-shape) in
-      let by-class = refused-is (classChecks limit c) _ b (asked .of-class) in
+      let by-shape = numbered-refusal (shapeChecks limit s) _ a (asked .of-shape) in
+      let by-class = numbered-refusal (classChecks limit c) _ b (asked .of-class) in
       rw (by-shape, by-class)
       (in-order (no-1 s .0) (no-2 limit (shapeOf s) .0) (no-3 c .0) (no-4 limit (classOf c) .0) _)
 

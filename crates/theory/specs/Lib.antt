@@ -13,3 +13,4 @@ pub mod Hooks
 pub mod Listing
 pub mod Column
 pub mod Refusals
+pub mod OldForm

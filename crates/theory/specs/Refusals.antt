@@ -1,13 +1,14 @@
 -- Numbers that refuse (document 01, the table and "Order"; document 02, each request's refusals). A check is a test and
 -- the number that it refuses with.
---   no-1 .. no-15       the rows of the table, each once; no-16 and no-17, those of P1; no-18 and no-19, those of P3
+--   no-1 .. no-15       the rows of the table, each once; no-16 and no-17, those of P1; no-18 and no-19, those of P3;
+--                       no-20, that of P5
 --   firstOf checks      the number of the first check whose test applies, 0 if none does
 --   refusedOr k f x     f k, which refuses with the number k, or x where k is 0
 --   shapeChecks         the checks of a single call on a shape word; classChecks, on a class word; pairChecks, on both
 --   shapeListChecks     the checks of a part list for a shape; classListChecks, for a class
 use Rattle.theory.specs.Basics.{Bool, not, cond, _&&_, List, [], _∷_, length, take, ℕ, zero, suc, _=?_, _<?_}
 use Rattle.theory.specs.Basics.{_≤?_, same}
-use Rattle.theory.specs.Limits.{pageLimit}
+use Rattle.theory.specs.Limits.{pageLimit, listLimit}
 use Rattle.theory.specs.Partition.{Parts, isPartition, degree, times}
 use Rattle.theory.specs.ShapeWord.{goodShape, shapeOf}
 use Rattle.theory.specs.ClassWord.{goodClass, classOf}
@@ -77,6 +78,10 @@ no-18 preview strip = (length strip <? length preview, 18)
 -- the front of a strip that is too short is not the preview
 abbrev pub no-19 : List ℕ → List ℕ → Check
 no-19 preview strip = (not (same preview (take (length preview) strip)), 19)
+
+-- unequal lengths, or more than a list may have
+abbrev pub no-20 : List ℕ → List ℕ → Check
+no-20 given lent = (not (length given =? length lent && length given ≤? listLimit), 20)
 
 -- ---- the order
 abbrev pub firstOf : List Check → ℕ

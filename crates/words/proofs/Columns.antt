@@ -5,9 +5,10 @@ use Prim.Native.Nat.{_≤_}
 use native.Mathlib.Nat.{zero-add}
 use native.Mathlib.Numerals.{add-one}
 use native.Mathlib.Omega.{arith}
-use lib.ListN.{set, length-set}
+use mathlib.Core.List.{append-nil}
+use lib.ListN.{set, length-set, drop-of-length-le}
 use lib.Seq.{sets, sets-eq}
-use Rattle.theory.specs.Basics.{List, [], _∷_, ℕ, _+_, length}
+use Rattle.theory.specs.Basics.{List, [], _∷_, _++_, ℕ, _+_, length}
 use Rattle.words.specs.Answers.{atFront}
 
 module _ {A : Type 0} (xs lent : List A) where
@@ -31,3 +32,10 @@ module _ {A : Type 0} (xs lent : List A) where
       → column ≡ atFront xs lent
   put-all {column} {i = i} l p e =
       sym (ap (sets column i) e) ∙ p .promised ∙ sets-eq xs lent 0 (rw zero-add l) ∙ rw zero-add
+
+  -- to a column that is just as long
+  pub put-whole : {column left : List A} {i : ℕ} → length xs ≡ length lent → Putting column i left → left ≡ []
+      → column ≡ xs
+  put-whole l p e =
+      let none : length lent ≤ length xs = omega arith in
+      put-all (omega arith) p e ∙ ap (λ rest. xs ++ rest) (drop-of-length-le lent none) ∙ append-nil xs

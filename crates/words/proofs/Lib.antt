@@ -4,6 +4,8 @@ pub mod Measures
 pub mod Factorials
 pub mod PartLists
 pub mod Columns
+pub mod MovedLists
 pub mod ClassLoops
 pub mod ClassProducts
+pub mod ClassWriting
 pub mod Unique

@@ -1,5 +1,6 @@
-// Partitions as words of 32 bits: part lists and words turned into each other by Comét's two methods, and what a word
-// tells. Every call takes every input; a refused word or number is 0, and a refused call writes nothing.
+// Partitions as words of 32 bits: part lists and words turned into each other by Comét's two methods, what a word
+// tells, and lists of shapes moved from one method to the other. Every call takes every input; a refused word or number
+// is 0, and a refused call writes nothing.
 
 ghost use mathlib.Core.Path.{_≡_};
 ghost use Prim.Native.Nat.{_<_, _^_};
@@ -8,6 +9,7 @@ ghost use Rattle.words.specs.Answers.{numberAnswer};
 ghost use Rattle.words.specs.Private.Reading.{countWithin};
 
 pub mod classes;
+mod forms;
 mod lists;
 pub mod shapes;
 
@@ -27,6 +29,12 @@ pub struct CountAnswer {
     pub count: usize,
 }
 
+// What refuses a list of words and, where that is one of its words, the index of the first such, from 0.
+pub struct ListAnswer {
+    pub refused: u8,
+    pub index: usize,
+}
+
 // What the reader of a shape word or of a class word finds: why it is refused, or its degree and how many parts it has.
 struct Measure {
     refused: u8,
@@ -36,6 +44,9 @@ struct Measure {
 
 // The greatest degree.
 pub const LIMIT: u32 = 16;
+
+// The most words of a list of shapes.
+pub const LIST_LIMIT: usize = 4096;
 
 // How many degrees there are.
 pub const DEGREES: usize = LIMIT as usize + 1;

@@ -5,6 +5,7 @@ mod borders;
 mod class_data;
 mod columns;
 mod conjugates;
+mod old_lists;
 mod partitions;
 mod walk;
 
@@ -17,6 +18,7 @@ fn print_words(found: Found) {
     print(b"class words rise", found.rises);
     print(b"the listing has it at this rank", found.listed);
     print(b"columns too short and longer", found.columns);
+    print(b"old form and new", found.forms);
 }
 
 fn print_told(found: Found) {
@@ -32,4 +34,9 @@ fn main() {
     print_told(found);
     print(b"words at a border, E4, E6", borders::words());
     print(b"lists at a border, E1, E2, E3, E5", borders::lists());
+    print(
+        b"all partitions in one list, to the old form and back",
+        old_lists::all(),
+    );
+    print(b"lists of shapes at a border", old_lists::borders());
 }

@@ -6,6 +6,7 @@ use super::columns::Kind;
 use super::columns::fit;
 use super::columns::there_and_back;
 use super::conjugates;
+use super::old_lists;
 use super::partitions;
 use testing::Tally;
 use testing::numbers::factorial;
@@ -19,6 +20,7 @@ pub struct Found {
     pub rises: Tally,
     pub listed: Tally,
     pub columns: Tally,
+    pub forms: Tally,
     pub conjugates: Tally,
     pub signs: Tally,
     pub periods: Tally,
@@ -35,6 +37,7 @@ fn meet_words(found: Found, shape: WordAnswer, class: WordAnswer, parts: &[u8], 
     f.shapes = f.shapes.add(there_and_back(Kind::Shape, shape, parts, n));
     f.classes = f.classes.add(there_and_back(Kind::Class, class, parts, n));
     f.columns = f.columns.add(columns);
+    f.forms = f.forms.add(old_lists::agrees(shape.word, class.word));
     f.conjugates = f.conjugates.add(conjugates::agrees(shape.word, parts));
     f
 }
@@ -103,6 +106,7 @@ fn nothing() -> Found {
         rises: none,
         listed: none,
         columns: none,
+        forms: none,
         conjugates: none,
         signs: none,
         periods: none,

@@ -4,13 +4,13 @@ use denote.Ref.{now}
 use Rattle.theory.specs.Limits.{degreeLimit}
 use Rattle.words.specs.Answers.Laws.{one-outcome}
 use Rattle.words.specs.declared.NumberAnswer.{NumberAnswer}
-use Rattle.words.specs.Calls.{shapePartsInto, classPartsInto}
+use Rattle.words.specs.Calls.{shapePartsInto, classPartsInto, shapesFromOld, shapesToOld}
 use Rattle.words.specs.Calls.Laws.{one-period-told}
 use Rattle.characters.specs.Calls.{columnInto}
 use Rattle.characters.specs.Opening.{opening}
 use Rattle.characters.specs.Step.{preview, commit}
 use Rattle.sessiontext.specs.Calls.{saveInto, loadInto}
-use Rattle.zembrusha.specs.Exports.{counted, given, handedRun, loadedRun}
+use Rattle.zembrusha.specs.Exports.{counted, listed, given, handedRun, loadedRun}
 use Rattle.zembrusha.proofs.singles.zembrusha_character.Reads as character
 use Rattle.zembrusha.proofs.singles.zembrusha_character_refusal.Reads as character-refusal
 use Rattle.zembrusha.proofs.singles.zembrusha_degree.Reads as degree
@@ -29,6 +29,8 @@ use Rattle.zembrusha.proofs.runs.zembrusha_shape_word.Reads as shape-wo
 use Rattle.zembrusha.proofs.runs.zembrusha_class_word.Reads as class-word
 use Rattle.zembrusha.proofs.runs.zembrusha_shape_parts.Reads as shape-parts
 use Rattle.zembrusha.proofs.runs.zembrusha_class_parts.Reads as class-parts
+use Rattle.zembrusha.proofs.runs.zembrusha_shapes_from_old.Reads as shapes-from-old
+use Rattle.zembrusha.proofs.runs.zembrusha_shapes_to_old.Reads as shapes-to-old
 use Rattle.zembrusha.proofs.runs.zembrusha_column.Reads as column
 use Rattle.zembrusha.proofs.sessions.zembrusha_open.Reads as opened
 use Rattle.zembrusha.proofs.sessions.zembrusha_preview.Reads as previewed
@@ -117,6 +119,16 @@ pub zembrusha-class-parts-once : (κs : _) (a : _) (r r′ : _) (s s′ : _) →
     → class-parts.Post κs a r′ s′ → (r ≡ r′) × (now (s .1 .0) ≡ now (s′ .1 .0))
 zembrusha-class-parts-once κs a r r′ s s′ p q =
     one-outcome (counted (classPartsInto degreeLimit (a .0) (now (a .1 .0)))) p q
+
+pub zembrusha-shapes-from-old-once : (κs : _) (a : _) (r r′ : _) (s s′ : _) → shapes-from-old.Post κs a r s
+    → shapes-from-old.Post κs a r′ s′ → (r ≡ r′) × (now (s .1 .0) ≡ now (s′ .1 .0))
+zembrusha-shapes-from-old-once κs a r r′ s s′ p q =
+    one-outcome (listed (shapesFromOld degreeLimit (now (a .0)) (now (a .1 .0)))) p q
+
+pub zembrusha-shapes-to-old-once : (κs : _) (a : _) (r r′ : _) (s s′ : _) → shapes-to-old.Post κs a r s
+    → shapes-to-old.Post κs a r′ s′ → (r ≡ r′) × (now (s .1 .0) ≡ now (s′ .1 .0))
+zembrusha-shapes-to-old-once κs a r r′ s s′ p q =
+    one-outcome (listed (shapesToOld degreeLimit (now (a .0)) (now (a .1 .0)))) p q
 
 pub zembrusha-column-once : (κs : _) (a : _) (r r′ : _) (s s′ : _) → column.Post κs a r s → column.Post κs a r′ s′
     → (r ≡ r′) × (now (s .1 .0) ≡ now (s′ .1 .0))

@@ -1,5 +1,6 @@
 -- The answers of the calls as the exports hand them over.
 --   ofWord answer, ofCount answer   the word or the count as a number, the refusal number beside it
+--   ofList answer                   of a list, the index beside it; listed outcome, with the lent list as it is
 --   given slip                      the slip that the calculator is handed; slipOver slip, one that it hands back
 --   handedOver k slip               with the refusal number k; loadedOver k line slip, of a load, with the text's line
 --   handedRun outcome               a handed slip and a page: the slip handed over, the page as it is; loadedRun so too
@@ -10,6 +11,7 @@ use mathlib.Core.Path.{_≡_}
 use lib.Ieee.{Float, binary64, ofBits}
 use Rattle.theory.specs.Basics.{List, ℕ, ℤ, pos}
 use Rattle.words.specs.declared.CountAnswer.{CountAnswer}
+use Rattle.words.specs.declared.ListAnswer.{ListAnswer}
 use Rattle.words.specs.declared.NumberAnswer.{NumberAnswer}
 use Rattle.words.specs.declared.WordAnswer.{WordAnswer}
 use Rattle.pages.specs.declared.Slip as calculator
@@ -17,6 +19,7 @@ use Rattle.characters.specs.declared.Handed as calculator-handed
 use Rattle.sessiontext.specs.declared.Loaded as calculator-loaded
 use Rattle.characters.specs.Watch.{Value, whole, quotient, none}
 use Rattle.zembrusha.specs.declared.Number.{Number}
+use Rattle.zembrusha.specs.declared.Listed.{Listed}
 use Rattle.zembrusha.specs.declared.Slip.{Slip}
 use Rattle.zembrusha.specs.declared.Handed.{Handed}
 use Rattle.zembrusha.specs.declared.Loaded.{Loaded}
@@ -29,6 +32,12 @@ ofCount a = record { refused = a .refused; number = a .count }
 
 abbrev pub counted : {A : Type 0} → CountAnswer × List A → Number × List A
 counted x = (ofCount (x .0), x .1)
+
+abbrev pub ofList : ListAnswer → Listed
+ofList a = record { refused = a .refused; index = a .index }
+
+abbrev pub listed : ListAnswer × List ℕ → Listed × List ℕ
+listed x = (ofList (x .0), x .1)
 
 pub record NumberOf (Promised : NumberAnswer → Type 0) (r : ℤ) : Type 0 where
   pub answer : NumberAnswer

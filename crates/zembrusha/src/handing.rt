@@ -1,7 +1,8 @@
 // How the calls' answers are handed over to C, and a slip is taken from it.
 ghost use mathlib.Core.Path.{_≡_};
-ghost use Rattle.zembrusha.specs.Exports.{ofWord, ofCount, given, slipOver, handedOver, loadedOver};
+ghost use Rattle.zembrusha.specs.Exports.{ofWord, ofCount, ofList, given, slipOver, handedOver, loadedOver};
 use super::Handed;
+use super::Listed;
 use super::Loaded;
 use super::Number;
 use super::Slip;
@@ -21,6 +22,15 @@ pub fn of_count(answer: words::CountAnswer) -> Number
     Number {
         refused: answer.refused as u32,
         number: answer.count as u64,
+    }
+}
+
+pub fn of_list(answer: words::ListAnswer) -> Listed
+    ensures { λ r. ⌜ r ≡ ofList answer ⌝ }
+{
+    Listed {
+        refused: answer.refused as u32,
+        index: answer.index as u64,
     }
 }
 

@@ -14,6 +14,13 @@ pub struct Number {
     pub number: u64,
 }
 
+// What refuses a list of words and, where that is one of its words, the index of the first such, from 0.
+#[repr(C)]
+pub struct Listed {
+    pub refused: u32,
+    pub index: u64,
+}
+
 // A session's slip.
 #[repr(C)]
 pub struct Slip {

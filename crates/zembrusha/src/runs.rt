@@ -1,10 +1,13 @@
-// Calls with a lent run: a pointer, then a length. Each answers a number by value: word or count, 0 when refused.
+// Calls with a lent run: a pointer, then a length. Each answers by value: word or count, 0 when refused, or of a list
+// which of its words was refused.
 ghost use mathlib.Core.Path.{_≡_};
 ghost use Rattle.theory.specs.Limits.{degreeLimit};
 ghost use Rattle.words.specs.Answers.{Outcome};
 ghost use Rattle.words.specs.Calls.{shapeWordFrom, classWordFrom, shapePartsInto, classPartsInto};
+ghost use Rattle.words.specs.Calls.{shapesFromOld, shapesToOld};
 ghost use Rattle.characters.specs.Calls.{columnInto};
-ghost use Rattle.zembrusha.specs.Exports.{ofWord, counted};
+ghost use Rattle.zembrusha.specs.Exports.{ofWord, counted, listed};
+use super::Listed;
 use super::Number;
 use super::handing;
 
@@ -40,6 +43,24 @@ pub extern "C" fn zembrusha_class_parts(class: u32, column: &mut [u8]) -> Number
         r (now (column .exit)) ⌝ }
 {
     handing::of_count(words::classes::parts(class, column))
+}
+
+// Shapes packed by the first method, as classes are, as shape words, entry by entry.
+#[no_mangle]
+pub extern "C" fn zembrusha_shapes_from_old(old: &[u32], new: &mut [u32]) -> Listed
+    ensures { λ r. ⌜ Outcome (listed (shapesFromOld degreeLimit (now (old .entry)) (now (new .entry))))
+        r (now (new .exit)) ⌝ }
+{
+    handing::of_list(words::shapes::from_old(old, new))
+}
+
+// And back.
+#[no_mangle]
+pub extern "C" fn zembrusha_shapes_to_old(new: &[u32], old: &mut [u32]) -> Listed
+    ensures { λ r. ⌜ Outcome (listed (shapesToOld degreeLimit (now (new .entry)) (now (old .entry))))
+        r (now (old .exit)) ⌝ }
+{
+    handing::of_list(words::shapes::to_old(new, old))
 }
 
 // The values of a class for all shapes, in listing order, to the front of a column; their count.

@@ -13,6 +13,13 @@ struct Number {
 
 #[repr(C)]
 #[derive(Clone, Copy)]
+struct Listed {
+    refused: u32,
+    index: u64,
+}
+
+#[repr(C)]
+#[derive(Clone, Copy)]
 struct CSlip {
     shape: u32,
     class_word: u32,
@@ -55,6 +62,8 @@ extern "C" {
     fn zembrusha_class_word(parts: *const u8, count: usize) -> Number;
     fn zembrusha_shape_parts(shape: u32, column: *mut u8, length: usize) -> Number;
     fn zembrusha_class_parts(class: u32, column: *mut u8, length: usize) -> Number;
+    fn zembrusha_shapes_from_old(old: *const u32, count: usize, new: *mut u32, room: usize) -> Listed;
+    fn zembrusha_shapes_to_old(new: *const u32, count: usize, old: *mut u32, room: usize) -> Listed;
     fn zembrusha_column(class: u32, values: *mut i64, length: usize) -> Number;
     fn zembrusha_open(shape: u32, class: u32, page: *mut u64, words: usize) -> Handed;
     fn zembrusha_preview(
@@ -142,6 +151,22 @@ pub fn class_parts(class: u32, column: &[u8]) -> Left<Valued<u64>, u8> {
 
 pub fn column(class: u32, values: &[i64]) -> Left<Valued<u64>, i64> {
     lend(values, |pointer, length| valued(unsafe { zembrusha_column(class, pointer, length) }))
+}
+
+/// What a call on two lists answers, the refusal number and the index, and leaves in the list that it reads, and what
+/// it leaves in the one that it writes.
+pub type Moved = Left<Left<(u32, u64), u32>, u32>;
+
+fn listed(answer: Listed) -> (u32, u64) {
+    (answer.refused, answer.index)
+}
+
+pub fn shapes_from_old(old: &[u32], new: &[u32]) -> Moved {
+    lend(new, |to, room| lend(old, |from, count| listed(unsafe { zembrusha_shapes_from_old(from, count, to, room) })))
+}
+
+pub fn shapes_to_old(new: &[u32], old: &[u32]) -> Moved {
+    lend(old, |to, room| lend(new, |from, count| listed(unsafe { zembrusha_shapes_to_old(from, count, to, room) })))
 }
 
 impl From<Slip> for CSlip {

@@ -16,6 +16,12 @@ impl Guard for u8 {
     }
 }
 
+impl Guard for u32 {
+    fn guard(at: usize) -> u32 {
+        u64::guard(at) as u32
+    }
+}
+
 impl Guard for u64 {
     fn guard(at: usize) -> u64 {
         0xA5C3_96E1_5A3C_691E ^ (at as u64)

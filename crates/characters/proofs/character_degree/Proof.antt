@@ -7,9 +7,10 @@ use Rattle.theory.specs.ShapeWord.{shapeOf}
 use Rattle.theory.specs.Character.{_on_}
 use Rattle.theory.specs.Refusals.{shapeChecks}
 use Rattle.theory.specs.Limits.{degreeLimit}
+use Rattle.words.specs.Answers.Laws.{numbered-refusal}
 use Rattle.words.specs.Calls.{shapeDegree}
 use Rattle.words.proofs.Answers.{number-refused, number-given}
-use Rattle.pages.proofs.WordPairs.{DegreeGiven, degree-given, refused-is}
+use Rattle.pages.proofs.WordPairs.{DegreeGiven, degree-given}
 use Rattle.characters.specs.Calls.{shapeCharacterDegree}
 use Rattle.characters.proofs.Evaluables.{Identity, identity}
 use Rattle.characters.proofs.Walks.{character-carried}
@@ -24,7 +25,7 @@ unfolding shapeCharacterDegree shapeDegree
 returns c =
     let a = c .before .before in
     let checks = shapeChecks degreeLimit (a .before .args .shape) in
-    number-refused checks _ _ (refused-is checks _ (a .degree .result) (a .degree .ensures)) (c .if1 .taken)
+    number-refused checks _ _ (numbered-refusal checks _ (a .degree .result) (a .degree .ensures)) (c .if1 .taken)
 
 abbrev asked : tie.After-struct-told → tie.After-degree
 asked c = c .before .before .before .before

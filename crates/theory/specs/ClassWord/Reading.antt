@@ -87,7 +87,7 @@ parts-double n x =
     let even : x * 2 % 2 ≡ 0 = omega arith in
     rw (digits-last n (x * 2), half, even) (parts-zero 0 (digits n x))
 
-parts-shift : (n k x : ℕ) → partsAfter 0 (digits (n + k) (x * 2 ^ k)) ≡ partsAfter 0 (digits n x)
+pub parts-shift : (n k x : ℕ) → partsAfter 0 (digits (n + k) (x * 2 ^ k)) ≡ partsAfter 0 (digits n x)
 parts-shift n zero x = rw (add-zero, mul-one)
 parts-shift n (suc k) x =
     let e : x * 2 ^ suc k ≡ x * 2 ^ k * 2 = omega (arith, ap (λ (y : ℕ). x * y) (pow-suc 2 k)) in

@@ -25,6 +25,12 @@ module _ {A : Type 0} (f : ℕ → A) (x : A) where
   pub or-given : (k : ℕ) → k ≡ 0 → refusedOr k f x ≡ x
   or-given k e = rw e refl
 
+  -- an answer that is refused by neither: what is asked first does not refuse, nor does the rest
+  pub neither : (number : A → ℕ) → ((k : ℕ) → number (f k) ≡ k) → (k : ℕ) → number (refusedOr k f x) ≡ 0
+      → (k ≡ 0) × (number x ≡ 0)
+  neither number its-number zero e = (refl, e)
+  neither number its-number (suc k) e = absurd (omega (arith, its-number (suc k), e))
+
 -- any answer that holds the number that it is refused with: its number, what it is if that is 0, and that a refused
 -- answer is refused alike, whatever was to be given
 module _ {A : Type 0} (number : A → ℕ) (f : ℕ → A) (x : A) (its-number : (k : ℕ) → number (f k) ≡ k)
@@ -132,6 +138,13 @@ within-class limit w e =
       small = ltb-false limit (degree (classOf w)) (a .1 .0);
     }
 
+-- and words that are so pass
+pub shape-passes : {limit w : ℕ} → Within limit w → firstOf (shapeChecks limit w) ≡ 0
+shape-passes {limit} {w} p = rw (shape-good (p .good), le-ltb limit (degree (shapeOf w)) (p .small))
+
+pub class-passes : {limit w : ℕ} → WithinClass limit w → firstOf (classChecks limit w) ≡ 0
+class-passes {limit} {w} p = rw (class-good (p .good), le-ltb limit (degree (classOf w)) (p .small))
+
 pub record Matched (limit s c : ℕ) : Type 0 where
   pub shape : Within limit s
   pub class : WithinClass limit c
@@ -148,7 +161,6 @@ matched limit s c e =
       degrees = eqb-true m n (not-false (m =? n) same);
     }
 
--- and words that are so pass
 pub pair-passes : {limit s c : ℕ} → Matched limit s c → firstOf (pairChecks limit s c) ≡ 0
 pair-passes {limit} {s} {c} m = rw (
   shape-good (m .shape .good),

@@ -1,14 +1,15 @@
 -- Shape words digit by digit, as code writes and reads them.
+--   behind last rs                the digits behind the zero of a row of length `last`, before the rows rs
 --   FirstDigit left x mask rest   what the first of `left` digits of x says of the ones and of the rows: it is a zero
 --                                 where x is below the mask, else a one, and x less the mask has the `rest` digits
 use mathlib.Core.Path.{_≡_, sym, _∙_, ap}
 use mathlib.Core.Logic.{⊎-elim}
 use Prim.Native.Nat.{_≤_, _<_}
-use native.Mathlib.Nat.{zero-add, suc-add, one-mul, add-sub-of-le, pos-of-ne-zero}
+use native.Mathlib.Nat.{zero-add, suc-add, sub-zero, one-mul, add-sub-of-le, pos-of-ne-zero}
 use native.Mathlib.Omega.{arith}
 use lib.Count
 use lib.Pow.{pow-mono}
-use Rattle.theory.specs.Basics.{true, false, _∷_, _++_, ℕ, zero, suc, _+_, _-_, _^_, length, replicate}
+use Rattle.theory.specs.Basics.{true, false, [], _∷_, _++_, ℕ, zero, suc, _+_, _-_, _^_, length, replicate}
 use Rattle.theory.specs.Partition.{Parts, first}
 use Rattle.theory.specs.Digits.{Digits, digits, word, ones}
 use Rattle.theory.specs.Digits.Laws.{digits-zero, digits-one, top-cases, word-none, word-digits}
@@ -40,6 +41,24 @@ shape-word-front n r rs f l =
     let d : k + m ≡ n - 1 = omega arith in
     ap (λ (i : ℕ). word i (shapeDigits (r ∷ rs))) e ∙ word-row k m (shapeDigits rs)
     ∙ ap (λ (i : ℕ). (2 ^ i - 2 ^ m) + word m (shapeDigits rs)) d
+
+-- ones written as the sum of a power that is still to come: a row changes nothing by its ones, and takes by its zero
+abbrev pub behind : ℕ → Parts → Digits
+behind last rs = replicate (last - first rs) true ++ shapeDigits rs
+
+pub row-behind : (n last r : ℕ) (rs : Parts) → r ≤ last → last - r < n
+    → word n (behind last (r ∷ rs)) + 2 ^ suc (n - (last - r) - 1) ≡ 2 ^ n + word (n - (last - r) - 1) (behind r rs)
+unfolding word
+row-behind n last r rs f l =
+    let k : ℕ = last - r in
+    let m : ℕ = n - k - 1 in
+    let e : k + suc m ≡ n = omega arith in
+    rw e at (word-run k (suc m) (shapeDigits (r ∷ rs)))
+
+pub none-behind : (n last : ℕ) → last ≤ n → word n (behind last []) + 2 ^ (n - last) ≡ 2 ^ n
+none-behind n last l =
+    let e : last + (n - last) ≡ n = omega arith in
+    rw sub-zero (omega (arith, rw e at (word-run last (n - last) []), word-none (n - last)))
 
 -- ---- reading
 pub ones-digits : (n x : ℕ) → x < 2 ^ n → ones (digits n x) ≡ Count.ones x

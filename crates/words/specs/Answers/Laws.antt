@@ -10,11 +10,15 @@ use Rattle.words.specs.Answers.{Outcome, NumberedBy, numberAnswer, numbe
 pub one-outcome : {A B : Type 0} (x : A × B) {r s : A} {p q : B} → Outcome x r p → Outcome x s q → (r ≡ s) × (p ≡ q)
 one-outcome x a b = (a .answers ∙ sym (b .answers), a .leaves ∙ sym (b .leaves))
 
+pub numbered-refusal : (checks : List Check) (z : ℤ) (r : NumberAnswer) → r ≡ numbered checks z
+    → r .refused ≡ firstOf checks
+numbered-refusal checks z =
+    answer-number (λ (x : NumberAnswer). x .refused) (λ k. numberAnswer k (pos 0)) (numberAnswer 0 z) (λ k. refl) refl
+    (firstOf checks)
+
 pub number-refusal : {checks : List Check} {P : ℕ → Type 0} {r : NumberAnswer} → NumberedBy checks P r
     → r .refused ≡ firstOf checks
-number-refusal {checks} {r = r} a =
-    answer-number (λ (x : NumberAnswer). x .refused) (λ k. numberAnswer k (pos 0)) (numberAnswer 0 (pos (a .number)))
-    (λ k. refl) refl (firstOf checks) r (a .answers)
+number-refusal {checks} {r = r} a = numbered-refusal checks (pos (a .number)) r (a .answers)
 
 pub one-number : {checks : List Check} {P : ℕ → Type 0} → ((m n : ℕ) → P m → P n → m ≡ n) → {r s : NumberAnswer}
     → NumberedBy checks P r → NumberedBy checks P s → r ≡ s

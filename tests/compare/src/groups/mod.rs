@@ -9,6 +9,7 @@ pub mod handmade;
 pub mod lists;
 pub mod long;
 mod made;
+pub mod old_lists;
 pub mod pairs;
 pub mod sessions;
 pub mod sizes;

@@ -1,5 +1,5 @@
-//! Document 01, and P1 to P3 of document 02, once more, by other means than the library's, and with Vec, String and
-//! HashMap at will:
+//! Document 01, and P1 to P3 and P5 of document 02, once more, by other means than the library's, and with Vec, String
+//! and HashMap at will:
 //! - words are read and written as strings of digits;
 //! - characters come from permutation characters, made orthogonal: no hook, no sign rule and no beta-number;
 //! - what a strike leaves comes from the rules of 1954 on lists of rows;
@@ -15,6 +15,9 @@ pub mod words;
 
 /// The largest degree.
 pub const DEGREE_LIMIT: u32 = 16;
+
+/// The longest list of shapes.
+pub const LIST_LIMIT: usize = 4096;
 
 /// The parts of a partition, longest first.
 pub type Parts = Vec<u8>;

@@ -1,7 +1,7 @@
 //! Shape words and class words, as strings of 32 digits with the sign digit in front.
 
 use super::partitions::{degree, is_partition};
-use super::{Answer, Parts, DEGREE_LIMIT};
+use super::{Answer, Parts, DEGREE_LIMIT, LIST_LIMIT};
 
 fn digits(word: u32) -> String {
     format!("{word:032b}")
@@ -56,6 +56,22 @@ pub fn read_pair(shape: u32, class: u32) -> Answer<(Parts, Parts)> {
         return Err(5);
     }
     Ok((rows, parts))
+}
+
+/// A list of words in another form, each read and packed again. Refuses 20 with the index 0, then as the first word
+/// that is refused, with its index.
+pub fn moved(
+    words: &[u32],
+    room: usize,
+    read: fn(u32) -> Answer<Parts>,
+    pack: fn(&[u8]) -> u32,
+) -> Result<Vec<u32>, (u32, u64)> {
+    if words.len() != room || words.len() > LIST_LIMIT {
+        return Err((20, 0));
+    }
+    let refused = |index: usize| move |number| (number, index as u64);
+    let moved = |(index, &word)| read(word).map(|parts| pack(&parts)).map_err(refused(index));
+    words.iter().enumerate().map(moved).collect()
 }
 
 /// The shape word of a partition of any degree whose digits fit a word.

@@ -18,7 +18,7 @@ enum zembrusha_refusal {
     ZEMBRUSHA_GIVEN = 0,             /* not refused */
     ZEMBRUSHA_BAD_SHAPE = 1,         /* shape word is 2^30 or more */
     ZEMBRUSHA_SHAPE_TOO_LARGE = 2,   /* shape degree above 16 */
-    ZEMBRUSHA_BAD_CLASS = 3,         /* class word or old shape with bit 31 or a rise; part list with a 0 or a rise */
+    ZEMBRUSHA_BAD_CLASS = 3,         /* class word or old shape: bit 31 set, or a rise; part list: a 0 or a rise */
     ZEMBRUSHA_CLASS_TOO_LARGE = 4,   /* class degree, or that of an old shape, above 16 */
     ZEMBRUSHA_DEGREES_DIFFER = 5,    /* the degrees of shape and class differ */
     ZEMBRUSHA_PAGE_TOO_LONG = 6,     /* page longer than 4,096 words */
@@ -160,7 +160,7 @@ struct zembrusha_number zembrusha_class_parts(uint32_t class, uint8_t *column, s
  * the front of the values, and their count; the rest of the values stays. Refuses 3, 4, 14. */
 struct zembrusha_number zembrusha_column(uint32_t class, int64_t *values, size_t length);
 
-/* ---- Whole lists of shapes, of at most 4,096 words: from the old form, in which an archive packs a shape as
+/* ---- Whole lists of shapes, of at most 4,096 words, moved from the old form, in which an archive packs a shape as
  * zembrusha_class_word packs a class, to shape words, and back. One run is read and one is written, of equal length;
  * each word becomes that of the same partition in the other form, and there and back is the list again. All words are
  * judged before the first is written. */
@@ -168,7 +168,8 @@ struct zembrusha_number zembrusha_column(uint32_t class, int64_t *values, size_t
 /* Shape words of shapes in the old form. Refuses 20, then 3 or 4 for the first bad word, with its index. */
 struct zembrusha_listed zembrusha_shapes_from_old(const uint32_t *old, size_t count, uint32_t *new, size_t room);
 
-/* And back: shapes in the old form of shape words. Refuses 20, then 1 or 2 for the first bad word, with its index. */
+/* And back: the old form of shapes given as shape words. Refuses 20, then 1 or 2 for the first bad word, with its
+ * index. */
 struct zembrusha_listed zembrusha_shapes_to_old(const uint32_t *new, size_t count, uint32_t *old, size_t room);
 
 /* ---- Sessions, on a page of 0 to 4,096 words that the caller lends. A waiting line is one word: bit 63 is set for a

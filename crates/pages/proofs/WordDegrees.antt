@@ -3,7 +3,6 @@
 use mathlib.Core.Path.{_≡_, refl, sym, _∙_, ap}
 use Prim.Native.Nat.{_≤_, _<_}
 use native.Mathlib.Omega.{arith}
-use borrow.Author.Tests.{le-ltb}
 use lib.ListN.{set}
 use Rattle.theory.specs.Basics.{Bool, true, false, List, [], _∷_, replicate, Each, ℕ, zero, suc, _*_, _+_, pos}
 use Rattle.theory.specs.Basics.{natAbs, getD, length, _/_, _%_}
@@ -11,13 +10,11 @@ use Rattle.theory.specs.Basics.AtPlace.{each-at}
 use Rattle.theory.specs.Digits.{digits}
 use Rattle.theory.specs.Partition.{degree}
 use Rattle.theory.specs.ShapeWord.{shapeOf}
-use Rattle.theory.specs.ShapeWord.Good.{shape-good}
 use Rattle.theory.specs.ClassWord.{classOf}
-use Rattle.theory.specs.ClassWord.Laws.{class-good}
 use Rattle.theory.specs.Limits.{degreeLimit}
 use Rattle.theory.specs.Bounds.Laws.{largestLimit}
 use Rattle.theory.specs.Refusals.{firstOf, refusedOr, shapeChecks, classChecks}
-use Rattle.theory.specs.Refusals.Laws.{Within, within, WithinClass, within-class}
+use Rattle.theory.specs.Refusals.Laws.{Within, within, shape-passes, WithinClass, within-class, class-passes}
 use Rattle.words.specs.Answers.{numberAnswer}
 use Rattle.words.specs.declared.NumberAnswer.{NumberAnswer}
 use Rattle.words.specs.Calls.{shapeDegree, classDegree}
@@ -63,14 +60,12 @@ word-small limit room false w = shape-natural limit w room .small
 pub shape-degree-is : {limit s : ℕ} → Within limit s → wordDegree limit false s ≡ degree (shapeOf s)
 unfolding wordDegree shapeDegree
 shape-degree-is {limit} {s} w =
-    given (firstOf (shapeChecks limit s)) _
-    (rw (shape-good (w .good), le-ltb limit (degree (shapeOf s)) (w .small)))
+    given (firstOf (shapeChecks limit s)) _ (shape-passes w)
 
 pub class-degree-is : {limit c : ℕ} → WithinClass limit c → wordDegree limit true c ≡ degree (classOf c)
 unfolding wordDegree classDegree
 class-degree-is {limit} {c} w =
-    given (firstOf (classChecks limit c)) _
-    (rw (class-good (w .good), le-ltb limit (degree (classOf c)) (w .small)))
+    given (firstOf (classChecks limit c)) _ (class-passes w)
 
 pub shape-degree-some : (limit s : ℕ) → (wordDegree limit false s ≡ 0 → ⊥) → Within limit s
 unfolding wordDegree shapeDegree

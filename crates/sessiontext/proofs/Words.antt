@@ -6,19 +6,17 @@ use mir.Facts.{toZ-ofZ}
 use mir.Syntax.{w64}
 use mir.Val.{SFits, toZ, ofZ}
 use borrow.Author.Needs.{sfits-of}
-use borrow.Author.Tests.{le-ltb, ltb-true}
+use borrow.Author.Tests.{ltb-true}
 use Rattle.theory.specs.Basics.{true, List, ℕ, _^_, ℤ, pos, negsuc, length, replicate}
 use Rattle.theory.specs.Partition.{degree}
 use Rattle.theory.specs.Partition.Laws.{length-degree}
 use Rattle.theory.specs.Digits.{digits, width}
 use Rattle.theory.specs.ShapeWord.{shapeOf}
-use Rattle.theory.specs.ShapeWord.Good.{shape-good}
 use Rattle.theory.specs.ShapeWord.Laws.{rows-partition}
 use Rattle.theory.specs.ClassWord.{classOf}
-use Rattle.theory.specs.ClassWord.Laws.{class-good}
 use Rattle.theory.specs.Limits.{degreeLimit}
-use Rattle.theory.specs.Refusals.{firstOf, shapeChecks, classChecks}
-use Rattle.theory.specs.Refusals.Laws.{Within, WithinClass}
+use Rattle.theory.specs.Refusals.{shapeChecks, classChecks}
+use Rattle.theory.specs.Refusals.Laws.{Within, WithinClass, shape-passes, class-passes}
 use Rattle.words.specs.declared.NumberAnswer.{NumberAnswer}
 use Rattle.words.specs.declared.CountAnswer.{CountAnswer}
 use Rattle.words.specs.Answers.{Outcome}
@@ -27,9 +25,6 @@ use Rattle.sessiontext.specs.SessionText.{held}
 use Rattle.words.proofs.Callers.{FrontGiven, front-given}
 
 module _ {w : ℕ} (s : Within degreeLimit w) where
-  shape-passes : firstOf (shapeChecks degreeLimit w) ≡ 0
-  shape-passes = rw (shape-good (s .good), le-ltb degreeLimit (degree (shapeOf w)) (s .small))
-
   shape-short : length (shapeOf w) ≤ 16
   shape-short = omega (arith, s .small, length-degree (shapeOf w) (rows-partition (digits width w)))
 
@@ -37,7 +32,8 @@ module _ {w : ℕ} (s : Within degreeLimit w) where
       → FrontGiven (shapeOf w) k parts
   unfolding shapePartsInto
   shape-parts {k} {parts} o =
-      front-given (shapeChecks degreeLimit w) 14 (shapeOf w) (replicate 16 0) refl (λ z. shape-short) k parts o shape-passes
+      front-given (shapeChecks degreeLimit w) 14 (shapeOf w) (replicate 16 0) refl (λ z. shape-short) k parts o
+      (shape-passes s)
 
   -- as a call hands it on to another
   pub shape-degree : {a : NumberAnswer} → a ≡ shapeDegree degreeLimit w
@@ -45,13 +41,10 @@ module _ {w : ℕ} (s : Within degreeLimit w) where
   unfolding shapeDegree
   shape-degree e =
       let number = ap (λ (x : NumberAnswer). x .number) e in
-      let given : shapeDegree degreeLimit w .number ≡ pos (degree (shapeOf w)) = rw shape-passes refl in
+      let given : shapeDegree degreeLimit w .number ≡ pos (degree (shapeOf w)) = rw (shape-passes s) refl in
       rw (number ∙ given) (toZ-ofZ {w = w64} (sfits-of (omega (arith, s .small))))
 
 module _ {w : ℕ} (c : WithinClass degreeLimit w) where
-  class-passes : firstOf (classChecks degreeLimit w) ≡ 0
-  class-passes = rw (class-good (c .good), le-ltb degreeLimit (degree (classOf w)) (c .small))
-
   class-short : length (classOf w) ≤ 16
   class-short = omega (arith, c .small, length-degree (classOf w) (c .good .partition))
 
@@ -59,7 +52,8 @@ module _ {w : ℕ} (c : WithinClass degreeLimit w) where
       → FrontGiven (classOf w) k parts
   unfolding classPartsInto
   class-parts {k} {parts} o =
-      front-given (classChecks degreeLimit w) 14 (classOf w) (replicate 16 0) refl (λ z. class-short) k parts o class-passes
+      front-given (classChecks degreeLimit w) 14 (classOf w) (replicate 16 0) refl (λ z. class-short) k parts o
+      (class-passes c)
 
 -- ---- numbers
 pub held-fits : (z : ℤ) → held z ≡ true → SFits w64 z

@@ -16,8 +16,9 @@ use super::ListAnswer;
 use super::classes;
 use super::shapes;
 
-// The new word of an old one. `bits` is one more than 31 ones; each row takes its zero out of them, behind the zero of
-// the row before and as many ones as that row is longer. At the end the ones behind the last row go, and that one more.
+// The new word of an old one. `bits` begins as 31 ones and one more; each row takes its zero out of them, behind the
+// zero of the row before and the ones by which that row is longer. At the end the ones behind the last row go, with the
+// one more.
 fn new_word(word: u32) -> u32
     requires { ⌜ WithinClass largestLimit word ⌝ }
     ensures { λ r. ⌜ r ≡ newWord word ⌝ }
@@ -67,7 +68,7 @@ fn old_word(word: u32) -> u32
     bits
 }
 
-// Why a word is refused, as its degree would be: 0 for one that is not.
+// The number that refuses a word, as the call for its degree gives it; 0 for none.
 fn refusal(word: u32, old: bool) -> u8
     ensures { λ r. ⌜ r ≡ firstOf (formChecks degreeLimit old word) ⌝ }
 {
@@ -117,7 +118,7 @@ fn write(given: &[u32], lent: &mut [u32], old: bool)
     }
 }
 
-// A list in the other form. Refuses 20, then what refuses the first bad word; all are judged before one is written.
+// A list in the other form. Refuses 20, then as the first bad word is refused; all are judged before one is written.
 pub fn moved(given: &[u32], lent: &mut [u32], old: bool) -> ListAnswer
     ensures { λ r. ⌜ Outcome
         (movedList (formChecks degreeLimit old) (otherForm old) (now (given .entry)) (now (lent .entry))) r

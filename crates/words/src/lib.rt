@@ -29,7 +29,7 @@ pub struct CountAnswer {
     pub count: usize,
 }
 
-// What refuses a list of words and, where that is one of its words, the index of the first such, from 0.
+// What refuses a list of words, 0 for nothing, and the index of the first bad word, from 0; 0 where no word is bad.
 pub struct ListAnswer {
     pub refused: u8,
     pub index: usize,

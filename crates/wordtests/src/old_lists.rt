@@ -36,7 +36,7 @@ fn holds(run: &[u32], word: u32, count: usize) -> bool {
 }
 
 // Whether a list of one word is moved to a list of the other.
-fn turns(kind: Kind, word: u32, other: u32) -> bool {
+fn moves(kind: Kind, word: u32, other: u32) -> bool {
     let given = [word; 1];
     let mut lent = [LENT; 1];
     is(moved(kind, &given, &mut lent), 0, 0) & holds(&lent, other, 1)
@@ -44,7 +44,7 @@ fn turns(kind: Kind, word: u32, other: u32) -> bool {
 
 // Whether the two words of a partition are moved to each other.
 pub fn agrees(shape: u32, class: u32) -> bool {
-    turns(Kind::Class, class, shape) & turns(Kind::Shape, shape, class)
+    moves(Kind::Class, class, shape) & moves(Kind::Shape, shape, class)
 }
 
 // All partitions in one list, to the old form and back: a case for each word of the list.
@@ -102,7 +102,7 @@ fn lengths(t: Tally, kind: Kind) -> Tally {
     refused_length(t, kind, MOST, LIST_LIMIT)
 }
 
-// Whether the longest list is refused for the word at this place, whatever stands in the last one.
+// Whether the longest list is refused for the word at this place, though the last word is bad too.
 fn bad_at(kind: Kind, place: usize, word: u32, refused: u8) -> bool {
     if LIST_LIMIT <= place {
         return false;

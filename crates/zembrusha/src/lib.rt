@@ -14,7 +14,7 @@ pub struct Number {
     pub number: u64,
 }
 
-// What refuses a list of words and, where that is one of its words, the index of the first such, from 0.
+// What refuses a list of words, 0 for nothing, and the index of the first bad word, from 0; 0 where no word is bad.
 #[repr(C)]
 pub struct Listed {
     pub refused: u32,

@@ -1,5 +1,5 @@
-// Calls with a lent run: a pointer, then a length. Each answers by value: word or count, 0 when refused, or of a list
-// which of its words was refused.
+// Calls with a lent run: a pointer, then a length. Each answers by value: a word or a count, 0 when refused; of a list,
+// what refuses it and the index of the first bad word.
 ghost use mathlib.Core.Path.{_≡_};
 ghost use Rattle.theory.specs.Limits.{degreeLimit};
 ghost use Rattle.words.specs.Answers.{Outcome};
@@ -45,7 +45,7 @@ pub extern "C" fn zembrusha_class_parts(class: u32, column: &mut [u8]) -> Number
     handing::of_count(words::classes::parts(class, column))
 }
 
-// Shapes packed by the first method, as classes are, as shape words, entry by entry.
+// The shape words of shapes packed by the first method, as classes are, entry by entry.
 #[no_mangle]
 pub extern "C" fn zembrusha_shapes_from_old(old: &[u32], new: &mut [u32]) -> Listed
     ensures { λ r. ⌜ Outcome (listed (shapesFromOld degreeLimit (now (old .entry)) (now (new .entry))))

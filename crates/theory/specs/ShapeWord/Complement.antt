@@ -1,6 +1,6 @@
 -- A shape word with its digits complemented, up to the last one: its ones are the rows, which leading zeros give again
 -- and again as they give the parts of a class word with these digits.
---   rowsAfter n ps   the rows, of zeros that stand as the parts ps do, with n ones from the first digit on
+--   rowsAfter n ps   the rows of a shape word with n ones, whose zeros stand where the parts ps end
 --   complement n x   the n lowest bits of x, complemented up to the last one
 use mathlib.Core.Path.{_≡_, refl, sym, _∙_, ap}
 use Prim.Native.Nat.{_≤_, _<_}
@@ -47,7 +47,7 @@ record Cut (n x : ℕ) : Type 0 where
   size : n - trailingZeros n x + trailingZeros n x ≡ n
   below : x / 2 ^ trailingZeros n x < 2 ^ (n - trailingZeros n x)
   room : x + 2 ^ trailingZeros n x ≤ 2 ^ n
-  turns : ((2 ^ (n - trailingZeros n x) - 1) - x / 2 ^ trailingZeros n x) * 2 ^ trailingZeros n x ≡ complement n x
+  complements : ((2 ^ (n - trailingZeros n x) - 1) - x / 2 ^ trailingZeros n x) * 2 ^ trailingZeros n x ≡ complement n x
 
 cut : (n x : ℕ) → x < 2 ^ n → Cut n x
 cut n x h =
@@ -61,7 +61,7 @@ cut n x h =
     let all : suc z + y ≡ 2 ^ m = omega arith in
     let power : 2 ^ n ≡ (suc z + y) * 2 ^ t =
     ap (λ (k : ℕ). 2 ^ k) (sym size) ∙ pow-add 2 m t ∙ ap (λ (k : ℕ). k * 2 ^ t) (sym all) in
-    record { size = size; below = below; room = omega arith; turns = omega arith }
+    record { size = size; below = below; room = omega arith; complements = omega arith }
 
 pub complement-room : (n x : ℕ) → x < 2 ^ n → x + 2 ^ trailingZeros n x ≤ 2 ^ n
 complement-room n x h = cut n x h .room
@@ -73,7 +73,7 @@ parts-complemented n x h =
     let t : ℕ = trailingZeros n x in
     let m : ℕ = n - t in
     rw (last-digits n x, digits-not m m (x / 2 ^ t) (c .below) (omega arith))
-    (sym (parts-shift m t ((2 ^ m - 1) - x / 2 ^ t)) ∙ rw (c .size, c .turns))
+    (sym (parts-shift m t ((2 ^ m - 1) - x / 2 ^ t)) ∙ rw (c .size, c .complements))
 
 pub rows-told : (n x : ℕ) → x < 2 ^ n
     → rows (digits n x) ≡ rowsAfter (ones (digits n x)) (partsAfter 0 (digits n (complement n x)))

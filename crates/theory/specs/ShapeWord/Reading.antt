@@ -42,7 +42,7 @@ shape-word-front n r rs f l =
     ap (λ (i : ℕ). word i (shapeDigits (r ∷ rs))) e ∙ word-row k m (shapeDigits rs)
     ∙ ap (λ (i : ℕ). (2 ^ i - 2 ^ m) + word m (shapeDigits rs)) d
 
--- ones written as the sum of a power that is still to come: a row changes nothing by its ones, and takes by its zero
+-- 2^n is n ones and one more: of these a row's ones change nothing, and its zero takes its power away
 abbrev pub behind : ℕ → Parts → Digits
 behind last rs = replicate (last - first rs) true ++ shapeDigits rs
 

@@ -48,6 +48,16 @@ def shape_of(word):
     return tuple(k for k in ones if k)
 
 
+def good_word(word):
+    """The word of the same shape without ones in front: its rows packed again."""
+    return shape_word(shape_of(word))
+
+
+def dropped(word):
+    """How many ones stand in front: before the first zero, or all digits."""
+    return (format(word % 2**31, '031b') + '0').index('0')
+
+
 def class_of(word):
     """Each one ends a part, as long as it and the zeros before it."""
     return tuple(len(zeros) + 1 for zeros in format(word % 2**31, '031b').split('1')[:-1])
@@ -139,9 +149,14 @@ def first_of(*checks):
     return next((number for applies, number in checks if applies), 0)
 
 
-def shape_refusal(w, more=()):
-    """1, 2 for a shape word."""
-    return first_of((w >= 2**30, 1), *more, (sum(shape_of(w)) > LIMIT, 2))
+def shape_refusal(w):
+    """1, 2 for a shape word, which may have ones in front."""
+    return first_of((w >= 2**31, 1), (sum(shape_of(w)) > LIMIT, 2))
+
+
+def good_shape_refusal(w):
+    """1, 2 for a shape word that has to be a good one, as in a list."""
+    return first_of((w >= 2**30, 1), (sum(shape_of(w)) > LIMIT, 2))
 
 
 def class_refusal(w):
@@ -180,7 +195,7 @@ def line_word(sign, s, c):
 def sound(slip, page):
     """Document 01's sound slip and page; a slip is (shape, class, settled, lines, steps)."""
     s, c, settled, lines, steps = slip
-    if pair_refusal(s, c) or lines > len(page) or any(page[lines:]):
+    if s >= 2**30 or pair_refusal(s, c) or lines > len(page) or any(page[lines:]):
         return False
     n, degrees = sum(shape_of(s)), []
     for _, t, k in map(line, page[:lines]):
@@ -193,12 +208,13 @@ def sound(slip, page):
 
 
 def opened(s, c, page):
-    """What an opening answers: refusal number, slip, page."""
-    lines = [] if s == 0 else [line_word(1, s, c)]
+    """What an opening answers: refusal number, slip, page, with the good word of the shape."""
+    good = good_word(s)
+    lines = [line_word(1, good, c)] if shape_of(s) else []
     k = pair_refusal(s, c) or first_of((len(page) > PAGE, 6), (len(lines) > len(page), 10))
     if k:
         return k, (0, 0, 0, 0, 0), page
-    return 0, (s, c, 0 if lines else 1, len(lines), 0), lines + [0] * (len(page) - len(lines))
+    return 0, (good, c, 0 if lines else 1, len(lines), 0), lines + [0] * (len(page) - len(lines))
 
 
 def struck(slip, page, i, cycle):

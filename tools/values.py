@@ -14,7 +14,7 @@ random, one in an equation, and the checker has to refuse every such equation: s
     python3 tools/values.py --only commits,watches --seed 7    some notions, other random cases
     python3 tools/values.py --keep DIR       leave the equations in DIR, to be read
 
-Without options it compares some 48,000 values of 3,400 equations, in 200 seconds of processor time on as many cores as
+Without options it compares some 57,000 values of 3,700 equations, in 200 seconds of processor time on as many cores as
 there are up to four (five minutes were seen on two busy ones); longer where the crates have to be proved first.
 
 It is run by hand, and is no part of the gate. The exit status is 0 only if every value agrees and every changed one is
@@ -36,9 +36,9 @@ from math import factorial
 
 sys.dont_write_bytecode = True
 from model import (  # noqa: E402
-    LIMIT, LIST, PAGE, character, class_of, class_refusal, class_size, class_word, committed, first_of, hooks, line,
-    line_word, list_refusal, most_steps, opened, pair_refusal, partitions, period, previewed, shape_of, shape_refusal,
-    shape_word, sound, struck, transposed, watched)
+    LIMIT, LIST, PAGE, character, class_of, class_refusal, class_size, class_word, committed, dropped, first_of,
+    good_shape_refusal, good_word, hooks, line, line_word, list_refusal, most_steps, number, opened, pair_refusal,
+    partitions, period, previewed, shape_of, shape_refusal, shape_word, sound, struck, transposed, watched)
 from texts import LEAST, MOST, by_hand, bytes_of, damaged, loaded, put_away, saved, taken_up  # noqa: E402
 
 CRATES = ['theory', 'text', 'words', 'listing', 'pages', 'characters', 'sessiontext']
@@ -110,18 +110,37 @@ def call(name, *texts):
 
 
 # ---- cases
+def room_in_front(word):
+    """How many ones there is room for in front of a shape word: as many as it has zeros at its end."""
+    digits = format(word, '031b')
+    return len(digits) - len(digits.rstrip('0'))
+
+
+def in_front(word, ones):
+    """A word with so many ones put in front of its digits; it loses as many at its end."""
+    return number('1' * ones + format(word, '031b')[:31 - ones])
+
+
+def some_in_front(r, word):
+    """A shape word with none, one, some or as many ones in front as there is room for."""
+    room = room_in_front(word)
+    return in_front(word, r.choice([0, 1, r.randint(0, room), room]))
+
+
 def some_words(seed, count):
-    """Words at the borders, and at random: any, short ones, words of partitions a little spoilt."""
+    """Words at the borders, and at random: any, short ones, words of partitions a little spoilt or with ones in
+    front."""
     r = random.Random(seed)
     words = {0, 1, 2, 2**14, 2**15, 2**29, 2**30 - 1, 2**30, 2**30 + 1, 2**31 - 1, 2**31, 2**32 - 1}
     words |= {0x3FFFC000, 0x3FFFE000, 0x4000, 0x2000, 0x40000000, 0x50000000, 0x05780000}
+    words |= {0x7FFF8000, 0x7FFFFFFE, 0x7FFFFFEB, 0x56000000, 0x5FFFE000, 0x5FFFF000, 0xC0000000, 0xD6000000}
     for n in (15, 16, 17):
         words |= {shape_word((n,)), shape_word((1,) * n), class_word((n,)), class_word((1,) * n)}
     while len(words) < count:
         p = r.choice(partitions(r.randint(1, 18)))
         good = r.choice([shape_word, class_word])(p)
-        near = good ^ 1 << r.randrange(32)
-        words.add(r.choice([r.getrandbits(32), r.getrandbits(30), r.getrandbits(12) << 19, good, near]))
+        near, front = good ^ 1 << r.randrange(32), in_front(good, r.randint(1, 31))
+        words.add(r.choice([r.getrandbits(32), r.getrandbits(30), r.getrandbits(12) << 19, good, near, front]))
     return sorted(words)
 
 
@@ -164,7 +183,7 @@ def spoilt(r, slip, page):
     """A slip and a page with one thing changed, sound or not."""
     s, c, settled, lines, steps = slip
     n, page, i = sum(shape_of(s)), list(page), r.randrange(len(page))
-    way = r.randrange(9)
+    way = r.randrange(11)
     if way == 0:
         lines = r.randint(0, len(page) + 1)
     elif way == 1:
@@ -182,6 +201,11 @@ def spoilt(r, slip, page):
     elif way == 7:
         m = r.randint(1, max(1, n))
         page[i] = line_word(r.choice([1, -1]), shape_word(r.choice(partitions(m))), class_word(r.choice(partitions(m))))
+    elif way == 8:
+        s = in_front(s, r.randint(1, 14))
+    elif way == 9:
+        sign, t, k = line(page[i])
+        page[i] = line_word(sign, in_front(t, r.randint(1, 14)), k)
     else:
         page = page[:i]
     return (s, c, settled, lines, steps), page
@@ -267,6 +291,35 @@ def shapes_read(n, seed):
 
 
 @notion(least=LIMIT)
+def good_words(n, seed):
+    """Good words of shape words with ones in front, and how many these are; the call that answers both."""
+    r = random.Random('%s %s good words' % (seed, n))
+    for p in partitions(n):
+        good, room = shape_word(p), room_in_front(shape_word(p))
+        for ones in sorted({0, 1, r.randint(1, room), room}):
+            w = in_front(good, ones)
+            yield 'goodWord ' + nat(w), nat(good)
+            yield 'dropped ' + nat(w), nat(ones)
+        yield call('goodShapeWord', nat(w)), good_answer(0, good, ones)
+
+
+@notion(most=0)
+def any_good_words(n, seed):
+    """The same of words at the borders and at random."""
+    for w in some_words(seed, 200):
+        k = shape_refusal(w)
+        yield call('goodShapeWord', nat(w)), good_answer(k, good_word(w), dropped(w))
+        if w < 2**31:
+            yield 'goodWord ' + nat(w), nat(good_word(w))
+            yield 'dropped ' + nat(w), nat(dropped(w))
+
+
+def good_answer(k, word, ones):
+    """A good word and how many ones were dropped, or a refusal."""
+    return 'goodAnswer %d %s %d' % ((k, '0', 0) if k else (0, nat(word), ones))
+
+
+@notion(least=LIMIT)
 def class_words(n, seed):
     """Class words of classes; and the new words of these, as the old words of shapes."""
     for p in partitions(n):
@@ -335,9 +388,10 @@ def hook_words(n, seed):
 
 @notion(most=0)
 def refused_words(n, seed):
-    """Refusals of words, as shapes and as classes."""
+    """Refusals of words, as shapes, as shapes that have to be good words, and as classes."""
     for w in some_words(seed, 200):
         yield 'firstOf (%s)' % call('shapeChecks', nat(w)), nat(shape_refusal(w))
+        yield 'firstOf (%s)' % call('goodShapeChecks', nat(w)), nat(good_shape_refusal(w))
         yield 'firstOf (%s)' % call('classChecks', nat(w)), nat(class_refusal(w))
 
 
@@ -347,7 +401,7 @@ def refused_pairs(n, seed):
     r, words = random.Random(seed), some_words(seed, 200)
     for _ in range(200):
         m = r.randint(0, 18)
-        good = shape_word(r.choice(partitions(m))), class_word(r.choice(partitions(m)))
+        good = some_in_front(r, shape_word(r.choice(partitions(m)))), class_word(r.choice(partitions(m)))
         s, c = (r.choice([word, word, r.choice(words)]) for word in good)
         yield 'firstOf (%s)' % call('pairChecks', nat(s), nat(c)), nat(pair_refusal(s, c))
 
@@ -409,18 +463,20 @@ def number_answer(k, z):
 
 @notion
 def ranks_answered(n, seed):
-    """The calls that answer the rank of a word."""
+    """The calls that answer the rank of a word, some shape words with ones in front."""
+    r = random.Random('%s %s ranks' % (seed, n))
     for rank, p in enumerate(partitions(n)):
-        yield call('shapeRank', nat(shape_word(p))), number_answer(0, rank)
+        yield call('shapeRank', nat(some_in_front(r, shape_word(p)))), number_answer(0, rank)
         yield call('classRank', nat(class_word(p))), number_answer(0, rank)
 
 
 @notion(each=10, most=7)
 def characters_answered(n, seed):
-    """The calls that answer a character, and a character degree: good words, and words of another degree."""
+    """The calls that answer a character, and a character degree: of shape words, some with ones in front, on classes,
+    some of another degree."""
     r = random.Random(seed)
     for p in partitions(n):
-        s, c = shape_word(p), class_word(r.choice(partitions(r.choice([n, n, n + 1]))))
+        s, c = some_in_front(r, shape_word(p)), class_word(r.choice(partitions(r.choice([n, n, n + 1]))))
         k = pair_refusal(s, c)
         yield call('characterOf', nat(s), nat(c)), number_answer(k, 0 if k else character(p, class_of(c)))
         yield call('shapeCharacterDegree', nat(s)), number_answer(0, character(p, (1,) * n))
@@ -428,14 +484,16 @@ def characters_answered(n, seed):
 
 @notion
 def parts_written(n, seed):
-    """The calls that write parts at the front of a lent column: too short, exact, and longer."""
+    """The calls that write parts at the front of a lent column: too short, exact, and longer. Some shape words have
+    ones in front."""
+    r = random.Random('%s %s parts' % (seed, n))
     for p in partitions(n):
-        for name, word in (('shapePartsInto', shape_word), ('classPartsInto', class_word)):
+        for name, word in (('shapePartsInto', some_in_front(r, shape_word(p))), ('classPartsInto', class_word(p))):
             for room in {max(0, len(p) - 1), len(p), len(p) + 2}:
                 column = [7] * room
                 k = 14 if room < len(p) else 0
                 left = column if k else list(p) + column[len(p):]
-                yield (call(name, nat(word(p)), nats(column)), 'counted %d %d %s' % (k, 0 if k else len(p), nats(left)))
+                yield (call(name, nat(word), nats(column)), 'counted %d %d %s' % (k, 0 if k else len(p), nats(left)))
 
 
 @notion(each=10)
@@ -446,7 +504,7 @@ def lists_moved(n, seed):
     long = (LIST, LIST + 1)
     cases = [([0] * count, [7] * room) for count in long for room in long] if n == 0 else []
     for name, pack, read, refusal, packed in (('shapesFromOld', class_word, class_of, class_refusal, shape_word),
-                                              ('shapesToOld', shape_word, shape_of, shape_refusal, class_word)):
+                                              ('shapesToOld', shape_word, shape_of, good_shape_refusal, class_word)):
         made = []
         for _ in range(40):
             given = [pack(r.choice(partitions(r.choice([n, n, r.randint(0, LIMIT)])))) for _ in range(r.randint(0, 7))]
@@ -475,10 +533,11 @@ def columns_written(n, seed):
 
 @notion(each=10, least=LIMIT)
 def openings(n, seed):
-    """Openings on pages of 0 to 2 words: of every shape on some classes, at times of another degree."""
+    """Openings on pages of 0 to 2 words: of every shape, at times with ones in front, on some classes, at times of
+    another degree."""
     r = random.Random('%s %s' % (seed, n))
     for p in partitions(n):
-        s, c = shape_word(p), class_word(r.choice(partitions(r.choice([n, n, n, n + 1]))))
+        s, c = some_in_front(r, shape_word(p)), class_word(r.choice(partitions(r.choice([n, n, n, n + 1]))))
         page = [r.getrandbits(64) for _ in range(r.randint(0, 2))]
         yield call('opening', nat(s), nat(c), nats(page)), left_text(opened(s, c, page))
 

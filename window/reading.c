@@ -1,4 +1,5 @@
 /* reading.c: what is typed: lines, the words of a line, and the numbers and partitions that they are. */
+#include <inttypes.h>
 #include <stdio.h>
 #include <stdlib.h>
 #include <string.h>
@@ -115,7 +116,7 @@ static bool read_parts(char *text, uint8_t parts[LONGEST_LINE], size_t *count)
 }
 
 /* Reads a partition, as parts or as a word, and packs parts by the call given. Where it is refused, it says so. */
-bool read_partition(char *text, struct zembrusha_number (*pack)(const uint8_t *, size_t), uint32_t *word)
+static bool read_partition(char *text, struct zembrusha_number (*pack)(const uint8_t *, size_t), uint32_t *word)
 {
     if (strncmp(text, "0x", 2) == 0 || strncmp(text, "0X", 2) == 0) {
         bool read = read_word(text, word);
@@ -137,4 +138,23 @@ bool read_partition(char *text, struct zembrusha_number (*pack)(const uint8_t *,
     }
     *word = (uint32_t)packed.number;
     return true;
+}
+
+/* The word is handed on as it came: the library drops the ones itself. The word of parts has none. */
+bool read_shape(char *text, uint32_t *shape)
+{
+    if (!read_partition(text, zembrusha_shape_word, shape)) {
+        return false;
+    }
+    struct zembrusha_good good = zembrusha_good_shape(*shape);
+    if (good.dropped != 0) {
+        printf("dropped %" PRIu32 " %s from the front of 0x%08" PRIX32 ", which leaves 0x%08" PRIX32 "\n",
+               good.dropped, good.dropped == 1 ? "one" : "ones", *shape, good.word);
+    }
+    return true;
+}
+
+bool read_class(char *text, uint32_t *class)
+{
+    return read_partition(text, zembrusha_class_word, class);
 }

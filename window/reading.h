@@ -26,7 +26,11 @@ size_t cut_words(char *text, char *words[MOST_WORDS]);
 /* A number of decimal figures and nothing else; false where it is none, or has no room in 64 bits. */
 bool read_number(const char *text, uint64_t *number);
 
-/* Reads a partition of a line, as parts, packed by the call given, or as a word. Where it is refused, it says so. */
-bool read_partition(char *text, struct zembrusha_number (*pack)(const uint8_t *, size_t), uint32_t *word);
+/* Reads a shape of a line, as parts or as a word. Where it is refused, it says so, and where a word has ones in front,
+ * that the library drops them. */
+bool read_shape(char *text, uint32_t *shape);
+
+/* Reads a class of a line, as parts or as a word. Where it is refused, it says so. */
+bool read_class(char *text, uint32_t *class);
 
 #endif

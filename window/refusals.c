@@ -8,7 +8,7 @@
 /* The words of each refusal number. */
 static const char *const REFUSALS[] = {
     [ZEMBRUSHA_GIVEN] = "not refused",
-    [ZEMBRUSHA_BAD_SHAPE] = "the shape word is 2^30 or more",
+    [ZEMBRUSHA_BAD_SHAPE] = "bit 31 of the shape word is set",
     [ZEMBRUSHA_SHAPE_TOO_LARGE] = "the shape's degree is above 16",
     [ZEMBRUSHA_BAD_CLASS] = "no partition: a part is 0 or above the one before it, or bit 31 of the class word is set",
     [ZEMBRUSHA_CLASS_TOO_LARGE] = "the class's degree is above 16",

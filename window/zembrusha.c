@@ -43,8 +43,7 @@ static void run_open(struct session *session, char **arguments)
 {
     uint32_t shape = 0;
     uint32_t class = 0;
-    if (read_partition(arguments[0], zembrusha_shape_word, &shape)
-        && read_partition(arguments[1], zembrusha_class_word, &class)) {
+    if (read_shape(arguments[0], &shape) && read_class(arguments[1], &class)) {
         open_session(session, shape, class);
     }
 }
@@ -55,8 +54,7 @@ static void run_character(struct session *session, char **arguments)
     uint32_t shape = 0;
     uint32_t class = 0;
     (void)session;
-    if (read_partition(arguments[0], zembrusha_shape_word, &shape)
-        && read_partition(arguments[1], zembrusha_class_word, &class)) {
+    if (read_shape(arguments[0], &shape) && read_class(arguments[1], &class)) {
         show_character(shape, class);
     }
 }
@@ -146,6 +144,7 @@ static void run_help(struct session *session, char **arguments)
         printf("%-23s%s\n", COMMANDS[i].form, COMMANDS[i].purpose);
     }
     printf("SHAPE and CLASS are parts, longest first, or words, as 0x2C000000; the empty partition is 0x0.\n");
+    printf("SHAPE words may have ones in front, as 0x56000000; these are dropped, which leaves 0x2C000000.\n");
     printf("LINE is the number of a waiting line, from 0; CYCLE is one of the numbers shown after strike.\n");
     printf("FILE is the rest of the line, blanks inside it included.\n");
 }

@@ -1,8 +1,10 @@
 /* zembrusha.h: characters of the symmetric group, step by step. The calls of libzembrusha.a.
  *
  * Partitions have degree 0 to 16. A shape word packs a partition as a shape, a class word packs it as a class of
- * permutations; docs/READING.md has the rules. Every call takes every number: what it cannot answer it refuses, with
- * one of the numbers below. A refused value, word or count is 0, and a refused call writes nothing.
+ * permutations; docs/READING.md has the rules. A shape word may have ones in front, from bit 30 down: a call that takes
+ * a shape word drops them and works on the good word, which has none. Slips, pages and lists hold good words only. Every
+ * call takes every number: what it cannot answer it refuses, with one of the numbers below. A refused value, word or
+ * count is 0, and a refused call writes nothing.
  *
  * A lent run is a pointer and then a length in elements. The pointer is good for that many elements and is not NULL,
  * even where the length is 0; nothing outside the run is read or written. Two runs lent to one call do not overlap. The
@@ -16,7 +18,7 @@
 /* Why a call is refused; 0 is for none. Where several apply, a call gives the first in its own order. */
 enum zembrusha_refusal {
     ZEMBRUSHA_GIVEN = 0,             /* not refused */
-    ZEMBRUSHA_BAD_SHAPE = 1,         /* shape word is 2^30 or more */
+    ZEMBRUSHA_BAD_SHAPE = 1,         /* shape word: bit 31 set; in a list of shapes: 2^30 or more */
     ZEMBRUSHA_SHAPE_TOO_LARGE = 2,   /* shape degree above 16 */
     ZEMBRUSHA_BAD_CLASS = 3,         /* class word or old shape: bit 31 set, or a rise; part list: a 0 or a rise */
     ZEMBRUSHA_CLASS_TOO_LARGE = 4,   /* class degree, or that of an old shape, above 16 */
@@ -67,6 +69,13 @@ struct zembrusha_number {
     uint64_t number;
 };
 
+/* A good shape word, with the refusal number in front, and how many ones were dropped; both are 0 when refused. */
+struct zembrusha_good {
+    uint32_t refused;
+    uint32_t word;
+    uint32_t dropped;
+};
+
 /* What refuses a list of words: the refusal number in front, and the index of the first bad word, from 0; the index is
  * 0 for every other answer. */
 struct zembrusha_listed {
@@ -74,7 +83,8 @@ struct zembrusha_listed {
     uint64_t index;
 };
 
-/* A session's slip: the shape and the class asked for, the settled sum, the number of waiting lines, the steps. */
+/* A session's slip: the shape, by its good word, and the class asked for, the settled sum, the number of waiting lines,
+ * the steps. */
 struct zembrusha_slip {
     uint32_t shape;
     uint32_t class_word;
@@ -97,7 +107,8 @@ struct zembrusha_loaded {
     struct zembrusha_slip slip;
 };
 
-/* ---- One shape and one class. Each value has beside it the refusal number for the same words. */
+/* ---- One shape and one class. Each value has beside it the refusal number for the same words; the good word has it in
+ * its own answer. */
 
 /* The character of a shape on a class. Refuses 1, 3, 2, 4, 5. */
 int64_t zembrusha_character(uint32_t shape, uint32_t class);
@@ -122,6 +133,10 @@ uint32_t zembrusha_conjugate(uint32_t shape);
 
 /* Why zembrusha_conjugate refuses this word, or 0. */
 uint32_t zembrusha_conjugate_refusal(uint32_t shape);
+
+/* The good word of a shape, and how many ones in front of the word given were dropped, 0 to 31: 0x40000000 is the empty
+ * shape, 0, with one dropped. Refuses 1, 2. */
+struct zembrusha_good zembrusha_good_shape(uint32_t word);
 
 /* The sign of a class, 1 or -1. Refuses 3, 4. */
 int64_t zembrusha_class_sign(uint32_t class);
@@ -161,24 +176,25 @@ struct zembrusha_number zembrusha_class_parts(uint32_t class, uint8_t *column, s
 struct zembrusha_number zembrusha_column(uint32_t class, int64_t *values, size_t length);
 
 /* ---- Whole lists of shapes, of at most 4,096 words, moved from the old form, in which an archive packs a shape as
- * zembrusha_class_word packs a class, to shape words, and back. One run is read and one is written, of equal length;
- * each word becomes that of the same partition in the other form, and there and back is the list again. All words are
- * judged before the first is written. */
+ * zembrusha_class_word packs a class, to good shape words, and back. One run is read and one is written, of equal
+ * length; each word becomes that of the same partition in the other form, and there and back is the list again. All
+ * words are judged before the first is written. */
 
-/* Shape words of shapes in the old form. Refuses 20, then 3 or 4 for the first bad word, with its index. */
+/* Good shape words of shapes in the old form. Refuses 20, then 3 or 4 for the first bad word, with its index. */
 struct zembrusha_listed zembrusha_shapes_from_old(const uint32_t *old, size_t count, uint32_t *new, size_t room);
 
-/* And back: the old form of shapes given as shape words. Refuses 20, then 1 or 2 for the first bad word, with its
- * index. */
+/* And back: the old form of shapes given as good shape words. Refuses 20, then 1 or 2 for the first bad word, with its
+ * index: 1 for a word with ones in front, too. */
 struct zembrusha_listed zembrusha_shapes_to_old(const uint32_t *new, size_t count, uint32_t *old, size_t room);
 
 /* ---- Sessions, on a page of 0 to 4,096 words that the caller lends. A waiting line is one word: bit 63 is set for a
- * minus sign, bits 62 to 32 are the shape word, bits 31 to 0 the class word. Slip and page are handed on together: an
- * older slip may pass as sound on a later page, and its sum is another. A step is two calls: a preview puts the new
- * lines on a strip that the caller lends, and a commit takes that strip and finishes the step. */
+ * minus sign, bits 62 to 32 are the shape word, bits 31 to 0 the class word. The shape words of slip and lines are good
+ * ones; one with ones in front is not sound. Slip and page are handed on together: an older slip may pass as sound on a
+ * later page, and its sum is another. A step is two calls: a preview puts the new lines on a strip that the caller
+ * lends, and a commit takes that strip and finishes the step. */
 
-/* Opens a session: one line on the page, zeros after it (at degree 0 no line, and settled is 1). Refuses 1, 3, 2, 4, 5,
- * 6, 10, with a slip of zeros. */
+/* Opens a session: one line on the page, zeros after it (at degree 0 no line, and settled is 1). Slip and line get the
+ * good word of the shape. Refuses 1, 3, 2, 4, 5, 6, 10, with a slip of zeros. */
 struct zembrusha_handed zembrusha_open(uint32_t shape, uint32_t class, uint64_t *page, size_t words);
 
 /* The new lines that a commit of this line, numbered from 0, and this cycle would put on the page, to the front of the

@@ -20,6 +20,7 @@ ANSWERS = re.compile(rb'''refused\ [0-9]+:\ .*
     | settled\ plus\ waiting:\ -?[0-9]+,\ unchanged\ since\ the\ (opening|load)
     | (not\ )?(saved|loaded):?\ .+
     | the\ character\ of\ \([0-9,]*\)\ on\ \([0-9,]*\)\ is\ -?[0-9]+
+    | dropped\ (1\ one|([2-9]|[1-3][0-9])\ ones)\ from\ the\ front\ of\ 0x[0-9A-F]{8},\ which\ leaves\ 0x[0-9A-F]{8}
     | (class|\([0-9,]*\))\ .*
     | (open|preview|strike|lines|watch|save|load|character|table|help|quit|SHAPE|LINE|FILE)\ .*''', re.VERBOSE)
 
@@ -28,14 +29,16 @@ LAST = b'\nopen 1 1\n'
 LAST_ANSWER = b'(1) on (1): settled 0, steps 0 of at most 1\nline 0: + (1) on (1), strike 1\n'
 
 # How often some answers are met at least.
-LEAST = {b'unchanged': 100, b'refused': 1000, b'\nsaved s\n': 50, b'\nloaded s\n': 50, b'\nwould be added': 20}
+LEAST = {b'unchanged': 100, b'refused': 1000, b'\nsaved s\n': 50, b'\nloaded s\n': 50, b'\nwould be added': 20,
+         b'\ndropped 1 one from': 10, b' ones from': 10}
 
 PARTITIONS = ['3,2', '2,2,1', '1,1,1,1,1', '4,1', '5', '0x2C000000', '0x14000000', '2,1', '1', '0x0', '6', '3,2,1']
+ONES_IN_FRONT = ['0x56000000', '0x7FFFFFEB']  # of the shape (3,2)
 
 
 def command(dice):
     """A command of its form, or nearly."""
-    shape, cycles = dice.choice(PARTITIONS), dice.choice(PARTITIONS)
+    shape, cycles = dice.choice(PARTITIONS + ONES_IN_FRONT), dice.choice(PARTITIONS)
     strike = f'strike {dice.randrange(4)} {dice.randrange(6)}'
     preview = f'preview {dice.randrange(2)} {dice.randrange(4)}'
     return dice.choice([f'open {shape} {cycles}', strike, strike, strike, preview, preview, 'lines', 'watch', 'save s',
@@ -69,7 +72,7 @@ def main():
     program = os.path.abspath(sys.argv[1])
     for seed in range(3):
         dice = random.Random(seed)
-        script = b'\n'.join(line(dice) for _ in range(3000))
+        script = b'\n'.join(line(dice) for _ in range(3500))
         script = re.sub(rb'(?m)^[ \t\r]*quit[ \t\r]*$', b'', script)
         run = answered(program, script + LAST)
         if run.returncode != 0 or run.stderr:

@@ -14,8 +14,9 @@ NUMBERS = {
 }
 STRUCTS = {
     'struct zembrusha_number': 'number', 'struct zembrusha_slip': 'slip', 'struct zembrusha_handed': 'handed',
-    'struct zembrusha_loaded': 'loaded', 'struct zembrusha_listed': 'listed',
+    'struct zembrusha_loaded': 'loaded', 'struct zembrusha_listed': 'listed', 'struct zembrusha_good': 'good',
     'Number': 'number', 'Listed': 'listed', 'Slip': 'slip', 'CSlip': 'slip', 'Handed': 'handed', 'Loaded': 'loaded',
+    'Good': 'good',
 }
 TYPES = NUMBERS | STRUCTS
 
@@ -41,6 +42,9 @@ CHANGES = [
     (r'int64_t \*values', 'uint64_t *values'),
     (r'double zembrusha_watch_ratio', 'int64_t zembrusha_watch_ratio'),
     (r'uint32_t zembrusha_conjugate\(uint32_t shape\);', ''),
+    (r'struct zembrusha_good zembrusha_good_shape', 'uint32_t zembrusha_good_shape'),
+    (r'zembrusha_good_shape\(uint32_t word', 'zembrusha_good_shape(uint64_t word'),
+    (r'uint32_t word;\s*uint32_t dropped;', 'uint32_t dropped; uint32_t word;'),
     (r'zembrusha_class_sign\(', 'zembrusha_sign('),
     (r'int64_t settled;\s*uint64_t lines;', 'uint64_t lines; int64_t settled;'),
     (r'uint32_t class_word;', 'uint64_t class_word;'),

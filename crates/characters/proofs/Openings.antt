@@ -1,5 +1,5 @@
 -- From the tests of an opening to what it is promised to answer and to leave.
-use mathlib.Core.Path.{_≡_, refl, sym, _∙_}
+use mathlib.Core.Path.{_≡_, refl, sym, _∙_, ap}
 use Prim.Native.Nat.{_≤_, _<_}
 use native.Mathlib.Omega.{arith}
 use borrow.Author.Tests.{lt-ltb, le-ltb, eq-eqb, ne-eqb}
@@ -7,7 +7,8 @@ use lib.ListN.{set}
 use Rattle.theory.specs.Basics.{false, List, [], _∷_, _++_, length, replicate, ℕ, zero, suc, _-_, pos}
 use Rattle.theory.specs.Limits.{pageLimit}
 use Rattle.theory.specs.Partition.{degree}
-use Rattle.theory.specs.ShapeWord.{shapeOf}
+use Rattle.theory.specs.ShapeWord.{shapeOf, goodWord}
+use Rattle.theory.specs.ShapeWord.InFront.{dropped-shape}
 use Rattle.theory.specs.Refusals.{Check, firstOf, pairChecks, no-6, no-10}
 use Rattle.theory.specs.Refusals.Laws.{first-refuses, first-passes, or-refused}
 use Rattle.words.specs.Answers.{Outcome}
@@ -22,8 +23,14 @@ set-first (suc n) w some =
     rw e
 
 module _ (limit s c : ℕ) (page : List ℕ) where
+  abbrev good : ℕ
+  good = goodWord s
+
+  same-degree : degree (shapeOf good) ≡ degree (shapeOf s)
+  same-degree = ap degree (dropped-shape s)
+
   abbrev behind : List Check
-  behind = no-6 page ∷ no-10 (firstLines s c) page ∷ []
+  behind = no-6 page ∷ no-10 (firstLines good c) page ∷ []
 
   abbrev Opened : Handed → List ℕ → Type 0
   Opened r after = Outcome (opening limit s c page) r after
@@ -46,32 +53,36 @@ module _ (limit s c : ℕ) (page : List ℕ) where
     page-refuses long = refused 6 (words-pass ∙ rw (lt-ltb pageLimit (length page) long)) (λ z. omega arith)
 
     module _ (short : length page ≤ pageLimit) where
-      page-passes : firstOf (pairChecks limit s c ++ behind) ≡ firstOf (no-10 (firstLines s c) page ∷ [])
+      page-passes : firstOf (pairChecks limit s c ++ behind) ≡ firstOf (no-10 (firstLines good c) page ∷ [])
       page-passes = words-pass ∙ rw (le-ltb pageLimit (length page) short)
 
-      pub empty-opens : degree (shapeOf s) ≡ 0
-          → Opened (handed 0 (slipOf s c (pos 1) 0 (pos 0))) (replicate (length page) 0)
+      pub empty-opens : (w : ℕ) → w ≡ good → degree (shapeOf s) ≡ 0
+          → Opened (handed 0 (slipOf w c (pos 1) 0 (pos 0))) (replicate (length page) 0)
       unfolding opening
-      empty-opens e =
-          let d = eq-eqb (degree (shapeOf s)) 0 e in
+      empty-opens w is e =
+          let d = eq-eqb (degree (shapeOf good)) 0 (same-degree ∙ e) in
           let all : length page - 0 ≡ length page = omega arith in
           let pass : firstOf (pairChecks limit s c ++ behind) ≡ 0 =
           page-passes ∙ rw (d, le-ltb (length page) 0 (omega arith)) in
-          rw (pass, d, all) (record { answers = refl; leaves = refl })
+          rw (is, pass, d, all) (record { answers = refl; leaves = refl })
 
       module _ (some : degree (shapeOf s) ≡ 0 → ⊥) where
+        some-good : degree (shapeOf good) ≡ 0 → ⊥
+        some-good z = some (sym same-degree ∙ z)
+
         pub room-refuses : length page ≡ 0 → Opened (handed 10 blank) page
         room-refuses none =
             refused 10
-            (page-passes ∙ rw (ne-eqb (degree (shapeOf s)) 0 some, lt-ltb (length page) 1 (omega arith)))
+            (page-passes ∙ rw (ne-eqb (degree (shapeOf good)) 0 some-good, lt-ltb (length page) 1 (omega arith)))
             (λ z. omega arith)
 
-        pub line-opens : (length page ≡ 0 → ⊥)
-            → Opened (handed 0 (slipOf s c (pos 0) 1 (pos 0)))
-            (set (replicate (length page) 0) 0 (wordOf (plain false s c)))
+        pub line-opens : (w : ℕ) → w ≡ good → (length page ≡ 0 → ⊥)
+            → Opened (handed 0 (slipOf w c (pos 0) 1 (pos 0)))
+            (set (replicate (length page) 0) 0 (wordOf (plain false w c)))
         unfolding opening
-        line-opens room =
-            let d = ne-eqb (degree (shapeOf s)) 0 some in
+        line-opens w is room =
+            let d = ne-eqb (degree (shapeOf good)) 0 some-good in
             let pass : firstOf (pairChecks limit s c ++ behind) ≡ 0 =
             page-passes ∙ rw (d, le-ltb (length page) 1 (omega arith)) in
-            rw (pass, d) (record { answers = refl; leaves = set-first (length page) (wordOf (plain false s c)) room })
+            rw (is, pass, d)
+            (record { answers = refl; leaves = set-first (length page) (wordOf (plain false good c)) room })

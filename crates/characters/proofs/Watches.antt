@@ -4,16 +4,17 @@ use mathlib.Core.Path.{_≡_, refl, sym, _∙_, ap}
 use Prim.Native.Nat.{_≤_, _<_}
 use native.Mathlib.Decide.{decLe, decLt}
 use native.Mathlib.Omega.{arith}
-use borrow.Author.Tests.{le-leb, lt-leb, le-ltb}
+use borrow.Author.Tests.{le-leb, lt-leb}
 use lib.Ieee.{binary64, ofInt, div}
 use lib.IntN.{+ℤ-idl}
 use Rattle.theory.specs.Basics.{cond, List, [], _∷_, ℕ, _+_, _^_, ℤ, pos, _+ℤ_, natAbs, _≤?_, sum}
 use Rattle.theory.specs.Basics.Laws.{Each, each-same}
 use Rattle.theory.specs.Bounds.Laws.{largestLimit}
 use Rattle.theory.specs.ShapeWord.{shapeOf}
+use Rattle.theory.specs.ShapeWord.Good.{good-shape}
 use Rattle.theory.specs.Character.{characterDegree}
 use Rattle.theory.specs.Refusals.{Check, firstOf, shapeChecks, no-8, no-15}
-use Rattle.theory.specs.Refusals.Laws.{both-pass, first-refuses, first-passes, or-refused, or-given}
+use Rattle.theory.specs.Refusals.Laws.{both-pass, first-refuses, first-passes, or-refused, or-given, shape-passes}
 use Rattle.words.specs.Answers.{numberAnswer}
 use Rattle.words.specs.declared.NumberAnswer.{NumberAnswer}
 use Rattle.words.proofs.Factorials.{factorial-fits}
@@ -152,7 +153,7 @@ module _ (limit : ℕ) (small : limit ≤ largestLimit) (x : ℕ) (s : SoundLine
       unfolding shapeCharacterDegree
       degree-carried =
           let none : firstOf (shapeChecks limit (lineOf x .shape)) ≡ 0 =
-          rw (s .shape, le-ltb limit (lineDegree (lineOf x)) (s .within)) in
+          shape-passes (record { good = good-shape (lineOf x .shape) (s .shape); small = s .within }) in
           let number : a .number ≡ by =
           ap (λ (k : NumberAnswer). k .number) (e ∙ or-given (λ k. numberAnswer k (pos 0)) _ _ none) in
           ap carried number ∙ carried-is by (omega (arith, exact .degree-fits))

@@ -9,6 +9,7 @@ use Rattle.theory.specs.Refusals.{shapeChecks, classChecks, pairChecks, no-14}
 use Rattle.words.specs.Answers.{numbered, written}
 use Rattle.words.specs.declared.CountAnswer.{CountAnswer}
 use Rattle.words.specs.declared.NumberAnswer.{NumberAnswer}
+pub mod Laws
 
 module _ (limit : ℕ) where
   unfoldable pub characterOf : ℕ → ℕ → NumberAnswer

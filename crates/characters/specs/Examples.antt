@@ -1,4 +1,5 @@
--- Examples to prove (document 01, "Examples to prove", E1 to E13): one table, and one theorem, by computation.
+-- Examples to prove (document 01, "Examples to prove", E1 to E13; document 02, P6, of E4): one table, and one theorem,
+-- by computation.
 --   on-sevens s c            the opening of s on c, on a page of two words that hold 7
 --   seen cycle outcome       a preview of line 0, on a strip of two words that hold 7
 --   strike cycle outcome     this preview and its commit, the latest slip and page handed on
@@ -11,7 +12,8 @@ use Rattle.theory.specs.ClassWord.{classWord, classOf}
 use Rattle.theory.specs.Refusals.{firstOf, shapeChecks, classChecks}
 use Rattle.theory.specs.Limits.{degreeLimit}
 use Rattle.words.specs.declared.CountAnswer.{CountAnswer}
-use Rattle.words.specs.Answers.{countAnswer}
+use Rattle.words.specs.Answers.{countAnswer, goodAnswer}
+use Rattle.words.specs.Calls.{goodShapeWord}
 use Rattle.pages.specs.Page.{slipOf}
 use Rattle.characters.specs.Opening.{handed, opening, Handed}
 use Rattle.characters.specs.Step.{preview, commit}
@@ -39,8 +41,10 @@ pub record Examples : Type 0 where
   pub E1 : shapeWord parts-3-2 ≡ 0x2C000000
   pub E2 : shapeWord (16 ∷ []) ≡ 0x3FFFC000
   pub E3 : shapeWord (replicate 16 1) ≡ 0x00004000
-  pub E4 : firstOf (shapeChecks degreeLimit 0x3FFFE000) ∷ firstOf (shapeChecks degreeLimit 0x40000000) ∷ [] ≡ 2 ∷ 1 ∷ []
+  pub E4 : firstOf (shapeChecks degreeLimit 0x3FFFE000) ≡ 2
   pub E4-row : shapeOf 0x3FFFE000 ≡ 17 ∷ []
+  pub E4-empty : shapeOf 0x40000000 ≡ []
+  pub E4-dropped : goodShapeWord degreeLimit 0x40000000 ≡ goodAnswer 0 (shapeWord []) 1
   pub E5 : classWord (5 ∷ 2 ∷ 2 ∷ 1 ∷ 1 ∷ 1 ∷ []) ≡ 0x05780000
   pub E6 : firstOf (classChecks degreeLimit 0x50000000) ∷ firstOf (classChecks degreeLimit 0x00004000) ∷ [] ≡ 3 ∷ 4 ∷ []
   pub E6-parts : classOf 0x50000000 ≡ 1 ∷ 2 ∷ []

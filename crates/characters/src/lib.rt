@@ -51,7 +51,7 @@ pub fn character(shape: u32, class: u32) -> NumberAnswer
     }
     NumberAnswer {
         refused: 0,
-        number: evaluation::value(shape, class),
+        number: evaluation::value(pair.shape, class),
     }
 }
 
@@ -67,16 +67,16 @@ fn ones(n: u32) -> u32
 pub fn character_degree(shape: u32) -> NumberAnswer
     ensures { λ r. ⌜ r ≡ shapeCharacterDegree degreeLimit shape ⌝ }
 {
-    let degree = words::shapes::degree(shape);
-    if degree.refused != 0 {
+    let read = words::shapes::read(shape);
+    if read.refused != 0 {
         return NumberAnswer {
-            refused: degree.refused,
+            refused: read.refused,
             number: 0,
         };
     }
     NumberAnswer {
         refused: 0,
-        number: evaluation::value(shape, ones(degree.number as u32)),
+        number: evaluation::value(read.word, ones(read.degree)),
     }
 }
 

@@ -60,7 +60,7 @@ fn unopened(number: u8) -> Handed
 }
 
 // Opens a session of a shape on a class: one line with a plus sign and zeros after it, or at degree 0 no line and 1
-// settled. Refuses 1, 3, 2, 4, 5, then 6, 10.
+// settled. Slip and line have the good word of the shape. Refuses 1, 3, 2, 4, 5, then 6, 10.
 pub fn open(shape: u32, class: u32, page: &mut [u64]) -> Handed
     ensures { λ r. ⌜ Outcome (opening degreeLimit shape class (now (page .entry))) r (now (page .exit)) ⌝ }
 {
@@ -68,6 +68,7 @@ pub fn open(shape: u32, class: u32, page: &mut [u64]) -> Handed
     if pair.refused != 0 {
         return unopened(pair.refused);
     }
+    let good = pair.shape;
     if PAGE_LIMIT < page.len() {
         return unopened(6);
     }
@@ -76,7 +77,7 @@ pub fn open(shape: u32, class: u32, page: &mut [u64]) -> Handed
         return Handed {
             refused: 0,
             slip: Slip {
-                shape,
+                shape: good,
                 class,
                 settled: 1,
                 lines: 0,
@@ -88,11 +89,11 @@ pub fn open(shape: u32, class: u32, page: &mut [u64]) -> Handed
         return unopened(10);
     }
     page::clear(page);
-    page[0] = pages::lines::word(false, shape, class);
+    page[0] = pages::lines::word(false, good, class);
     Handed {
         refused: 0,
         slip: Slip {
-            shape,
+            shape: good,
             class,
             settled: 0,
             lines: 1,

@@ -1,8 +1,14 @@
 // The refusals of words at their borders, in the order 1, 3, 2, 4, 5.
 use testing::Tally;
 
-// A word that is no shape, and shapes of one row.
-const NO_SHAPE: u32 = 0x4000_0000;
+// A word that is no shape, and shapes of one row; the empty one and those of 3 and 17 with a one in front.
+const NO_SHAPE: u32 = 0x8000_0000;
+
+const EMPTY_IN_FRONT: u32 = 0x4000_0000;
+
+const SHAPE_3_IN_FRONT: u32 = 0x5C00_0000;
+
+const SHAPE_17_IN_FRONT: u32 = 0x5FFF_F000;
 
 const SHAPE_3: u32 = 0x3800_0000;
 
@@ -42,6 +48,11 @@ pub fn pairs() -> Tally {
     let t = pair(t, 0, CLASS_3, 5, 0);
     let t = pair(t, SHAPE_3, CLASS_3, 0, 1);
     let t = pair(t, SHAPE_16, CLASS_16, 0, 1);
+    let t = pair(t, SHAPE_17_IN_FRONT, NO_CLASS, 3, 0);
+    let t = pair(t, SHAPE_17_IN_FRONT, CLASS_17, 2, 0);
+    let t = pair(t, SHAPE_3_IN_FRONT, CLASS_4, 5, 0);
+    let t = pair(t, SHAPE_3_IN_FRONT, CLASS_3, 0, 1);
+    let t = pair(t, EMPTY_IN_FRONT, 0, 0, 1);
     pair(t, 0, 0, 0, 1)
 }
 
@@ -60,6 +71,8 @@ pub fn shapes() -> Tally {
     let t = shape(t, 0x3FFF_FFFF, 2, 0, 0);
     let t = shape(t, SHAPE_16, 0, 1, 0);
     let t = shape(t, 0x0000_4000, 0, 1, 230);
+    let t = shape(t, 0x7FFF_8001, 0, 1, 134);
+    let t = shape(t, EMPTY_IN_FRONT, 0, 1, 0);
     shape(t, 0, 0, 1, 0)
 }
 

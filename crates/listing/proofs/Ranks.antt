@@ -6,30 +6,29 @@ use mathlib.Core.Path.{_≡_, refl, sym, _∙_, ap}
 use Prim.Native.Nat.{_≤_, _<_}
 use native.Mathlib.Omega.{arith}
 use lib.ListN.{length-replicate}
-use mir.Facts.{toZ-ofZ}
-use mir.Syntax.{w64}
-use mir.Val.{toZ, ofZ}
-use borrow.Author.Needs.{sfits-of}
 use borrow.Author.Tests.{le-ltb, le-leb, lt-leb, ltb-false, leb-false}
 use Rattle.theory.specs.Basics.{true, List, [], _∷_, ℕ, ℤ, pos, length, getD, take, replicate}
 use Rattle.theory.specs.Partition.{Parts, isPartition, degree}
 use Rattle.theory.specs.Partition.Laws.{length-degree}
 use Rattle.theory.specs.ShapeWord.{shapeWord, shapeOf}
+use Rattle.theory.specs.ShapeWord.Good.{good-shape}
 use Rattle.theory.specs.ShapeWord.Words.{small-has-room, word-back, rows-good}
 use Rattle.theory.specs.ClassWord.{classWord, classOf}
 use Rattle.theory.specs.Listing.{listing, rank}
 use Rattle.theory.specs.Listing.Ranks.{AtRank, at-rank}
 use Rattle.theory.specs.Refusals.{firstOf, no-11, no-12, shapeChecks, classChecks}
 use Rattle.theory.specs.Bounds.Laws.{largestLimit}
-use Rattle.theory.specs.Refusals.Laws.{Within, within, within-class, none-applies, first-refuses}
+use Rattle.theory.specs.Refusals.Laws.{shape-passes, within-class, none-applies, first-refuses}
 use Rattle.words.specs.Answers.{Outcome, wordAnswer, numberAnswer}
 use Rattle.words.specs.declared.CountAnswer.{CountAnswer}
 use Rattle.words.specs.declared.NumberAnswer.{NumberAnswer}
+use Rattle.words.specs.declared.ShapeReading.{ShapeReading}
 use Rattle.words.specs.declared.WordAnswer.{WordAnswer}
-use Rattle.words.specs.Calls.{shapePartsInto, classPartsInto, shapeWordFrom, classWordFrom, shapeDegree}
+use Rattle.words.specs.Calls.{shapePartsInto, classPartsInto, shapeWordFrom, classWordFrom, shapeReading}
 use Rattle.words.proofs.Answers.{word-given, number-refused, number-given}
-use Rattle.words.proofs.Callers.{word-given-by, word-refused-by, number-given-by, number-refused-by}
+use Rattle.words.proofs.Callers.{word-given-by, word-refused-by}
 use Rattle.words.proofs.Callers.{FrontGiven, column-refusal, front-given}
+use Rattle.words.proofs.Readings.{read-shape, reading-number, shape-read}
 use Rattle.listing.specs.declared.SectionAnswer.{SectionAnswer}
 use Rattle.listing.specs.Calls.{sectionOf, rankChecks, shapeAt, classAt, shapeRank, classRank}
 use Rattle.listing.proofs.Indexes.{section-number}
@@ -49,8 +48,9 @@ module _ (limit : ℕ) (fits : limit ≤ largestLimit) (ps : Parts) (partition :
   shape-back : shapeOf (shapeWord ps) ≡ ps
   shape-back = word-back ps (small-has-room ps partition (omega arith))
 
-  shape-passes : firstOf (shapeChecks limit (shapeWord ps)) ≡ 0
-  shape-passes = rw (rows-good ps, shape-back, le-ltb limit (degree ps) small)
+  word-passes : firstOf (shapeChecks limit (shapeWord ps)) ≡ 0
+  word-passes =
+      shape-passes (record { good = good-shape (shapeWord ps) (rows-good ps); small = rw shape-back small })
 
   shape-word-given : shapeWordFrom limit ps ≡ wordAnswer 0 (shapeWord ps)
   unfolding shapeWordFrom
@@ -62,14 +62,14 @@ module _ (limit : ℕ) (fits : limit ≤ largestLimit) (ps : Parts) (partition :
 
   shape-rank-given : shapeRank limit (shapeWord ps) ≡ numberAnswer 0 (pos (rank ps))
   unfolding shapeRank
-  shape-rank-given = rw (shape-passes, shape-back)
+  shape-rank-given = rw (word-passes, shape-back)
 
   shape-parts-given : (k : CountAnswer) (parts : List ℕ)
       → Outcome (shapePartsInto limit (shapeWord ps) (blank limit)) k parts → FrontGiven ps k parts
   unfolding shapePartsInto
   shape-parts-given k parts o =
       let front = front-given (shapeChecks limit (shapeWord ps)) 14 (shapeOf (shapeWord ps)) (blank limit) refl
-      (λ z. rw shape-back room) k parts o shape-passes in
+      (λ z. rw shape-back room) k parts o word-passes in
       rw shape-back at front
 
 -- ---- a degree and a rank
@@ -126,28 +126,20 @@ module _ (limit n r : ℕ) where
             ∙ word-given (rankChecks limit n r) (classWord (at n r)) (classWord (at n r)) (shape-given .0) refl
 
 -- ---- the rank of a shape word
-module _ (limit w : ℕ) (d : NumberAnswer) (e : d ≡ shapeDegree limit w) where
-  pub shape-rank-refused : (d .refused ≡ 0 → ⊥) → d ≡ shapeRank limit w
-  unfolding shapeDegree shapeRank
+module _ (limit w : ℕ) (a : ShapeReading) (e : a ≡ shapeReading limit w) where
+  pub shape-rank-refused : (a .refused ≡ 0 → ⊥) → numberAnswer (a .refused) (pos 0) ≡ shapeRank limit w
+  unfolding shapeRank
   shape-rank-refused =
-      number-refused-by (shapeChecks limit w) (pos (degree (shapeOf w))) d e (pos (rank (shapeOf w)))
+      number-refused (shapeChecks limit w) (pos (rank (shapeOf w))) (a .refused) (reading-number limit w a e)
 
-  module _ (z : d .refused ≡ 0) where
-    given : (firstOf (shapeChecks limit w) ≡ 0) × (d ≡ numberAnswer 0 (pos (degree (shapeOf w))))
-    unfolding shapeDegree
-    given = number-given-by (shapeChecks limit w) (pos (degree (shapeOf w))) d e z
-
-    pub shape-within : Within limit w
-    shape-within = within limit w (given .0)
-
-    pub degree-read : limit ≤ largestLimit → toZ w64 (ofZ w64 (d .number)) ≡ pos (degree (shapeOf w))
-    degree-read fits =
-        ap (λ (x : NumberAnswer). toZ w64 (ofZ w64 (x .number))) (given .1)
-        ∙ toZ-ofZ {w = w64} (sfits-of (omega (arith, shape-within .small)))
-
-    pub shape-ranked : (r : ℤ) → r ≡ pos (rank (shapeOf w)) → numberAnswer 0 r ≡ shapeRank limit w
-    unfolding shapeRank
-    shape-ranked r = number-given (shapeChecks limit w) (pos (rank (shapeOf w))) r (given .0)
+  -- the rank of the good word is that of the word
+  pub shape-ranked : a .refused ≡ 0 → (r : ℤ) → r ≡ pos (rank (shapeOf (a .word)))
+      → numberAnswer 0 r ≡ shapeRank limit w
+  unfolding shapeRank
+  shape-ranked z r f =
+      let read = shape-read limit w a e z in
+      let same = ap (λ (ps : Parts). pos (rank ps)) (read-shape read) in
+      number-given (shapeChecks limit w) (pos (rank (shapeOf w))) r (read .none) (f ∙ same)
 
 -- ---- the rank of a class word
 module _ (limit : ℕ) (fits : limit ≤ largestLimit) (w : ℕ) where

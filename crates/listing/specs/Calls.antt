@@ -12,6 +12,7 @@ use Rattle.listing.specs.declared.SectionAnswer.{SectionAnswer}
 use Rattle.words.specs.Answers.{worded, numbered}
 use Rattle.words.specs.declared.NumberAnswer.{NumberAnswer}
 use Rattle.words.specs.declared.WordAnswer.{WordAnswer}
+pub mod Laws
 
 abbrev pub sectionAnswer : ℕ → ℕ → ℕ → SectionAnswer
 sectionAnswer k start count = record { refused = k; start = start; count = count }

@@ -92,7 +92,7 @@ pub fn class_at(degree: u32, rank: u32) -> words::WordAnswer
     words::classes::word(&parts[..count])
 }
 
-// The rank of a shape word of this degree, searched for among the words of its degree. The words are lent, since a
+// The rank of a good shape word of this degree, searched for among the words of its degree. The words are lent, since a
 // constant would be made anew at each turn.
 fn search(words: &[u32], word: u32, degree: u32) -> u32
     requires { ⌜ (now words ≡ shapeWords) × Within degreeLimit word × (degree ≡ degreeOf (shapeOf word)) ⌝ }
@@ -110,11 +110,14 @@ fn search(words: &[u32], word: u32, degree: u32) -> u32
 pub fn shape_rank(word: u32) -> words::NumberAnswer
     ensures { λ r. ⌜ r ≡ shapeRank degreeLimit word ⌝ }
 {
-    let degree = words::shapes::degree(word);
-    if degree.refused != 0 {
-        return degree;
+    let shape = words::shapes::read(word);
+    if shape.refused != 0 {
+        return words::NumberAnswer {
+            refused: shape.refused,
+            number: 0,
+        };
     }
-    let rank = search(&shape_words(), word, degree.number as u32);
+    let rank = search(&shape_words(), shape.word, shape.degree);
     words::NumberAnswer {
         refused: 0,
         number: rank as i64,

@@ -4,17 +4,18 @@ use mathlib.Core.Bool.{false≢true}
 use Prim.Native.Nat.{min, _≤_, _<_}
 use native.Mathlib.Numerals.{add-one}
 use native.Mathlib.Omega.{arith}
-use borrow.Author.Tests.{le-leb, lt-leb, eq-eqb, ne-eqb}
+use borrow.Author.Tests.{le-leb, lt-leb, ne-eqb}
 use lib.ListN.{drop-of-length-le}
 use lib.Seq.{drop-cons}
 use lib.Signed.{nonNeg}
 use Rattle.theory.specs.Basics.{Bool, true, false, cond, _&&_, List, map, length, getD, drop, ℕ, _+_, _-_, natAbs, _≤?_}
 use Rattle.theory.specs.Basics.Laws.{both}
 use Rattle.theory.specs.Bounds.{factorial, S}
+use Rattle.theory.specs.ShapeWord.{goodShape}
 use Rattle.theory.specs.Refusals.{firstOf, pairChecks}
 use Rattle.pages.specs.Line.{Line, lineDegree}
 use Rattle.pages.specs.Page.{lineOf, Slip}
-use Rattle.pages.specs.Sound.{soundLine}
+use Rattle.pages.specs.Sound.{soundLine, soundWords}
 use Rattle.pages.specs.Sound.Laws.{sound-line, asked}
 use Rattle.pages.specs.Budget.{left, overspent, budgetOf, spentOn, spentAll, Budget}
 use Rattle.pages.specs.Budget.Laws.{overspent-stays}
@@ -122,24 +123,26 @@ spent-end limit b xs i h = rw (drop-of-length-le xs h)
 
 -- ---- at first
 module _ (limit : ℕ) (slip : Slip) where
-  abbrev checked : ℕ
-  checked = firstOf (pairChecks limit (slip .shape) (slip .class))
-
-  pub words-refused : (checked ≡ 0 → ⊥) → overspent ≡ budgetOf limit slip
+  pub shape-not-good : goodShape (slip .shape) ≡ false → overspent ≡ budgetOf limit slip
   unfolding budgetOf
-  words-refused some = rw (ne-eqb checked 0 some)
+  shape-not-good bad = rw bad
 
-  module _ (words : checked ≡ 0) where
+  pub words-refused : goodShape (slip .shape) ≡ true
+      → (firstOf (pairChecks limit (slip .shape) (slip .class)) ≡ 0 → ⊥) → overspent ≡ budgetOf limit slip
+  unfolding budgetOf
+  words-refused good some = rw (good, ne-eqb (firstOf (pairChecks limit (slip .shape) (slip .class))) 0 some)
+
+  module _ (words : soundWords limit slip ≡ true) where
     pub steps-back : nonNeg (slip .steps) ≡ false → overspent ≡ budgetOf limit slip
     unfolding budgetOf
-    steps-back back = rw (eq-eqb checked 0 words, back)
+    steps-back back = rw (words, back)
 
     module _ (forward : nonNeg (slip .steps) ≡ true) (n : ℕ) (is-asked : n ≡ asked slip) (settled : ℕ)
         (settled-size : settled ≡ natAbs (slip .settled)) (value : ℕ) (cost : value ≡ factorial n) where
       pub settled-dear : value < settled → overspent ≡ budgetOf limit slip
       unfolding budgetOf
       settled-dear short = rw (
-        eq-eqb checked 0 words,
+        words,
         forward,
         ← settled-size,
         ← is-asked,
@@ -152,7 +155,7 @@ module _ (limit : ℕ) (slip : Slip) where
         pub steps-long : span < steps → overspent ≡ budgetOf limit slip
         unfolding budgetOf
         steps-long short = rw (
-          eq-eqb checked 0 words,
+          words,
           forward,
           ← settled-size,
           ← steps-size,
@@ -166,7 +169,7 @@ module _ (limit : ℕ) (slip : Slip) where
         pub first-left : steps ≤ span → left n (value - settled) (span - steps) ≡ budgetOf limit slip
         unfolding budgetOf
         first-left lasts = rw (
-          eq-eqb checked 0 words,
+          words,
           forward,
           ← settled-size,
           ← steps-size,

@@ -1,89 +1,129 @@
--- The degree of one word, 0 where it is refused; and what is remembered of words.
---   Natural limit a   the answer a has a natural number within the limit
+-- The degree of one word, 0 where it is refused or no good word; and what is remembered of words.
+--   unless k n   n, or 0 where the number k refuses
 use mathlib.Core.Path.{_≡_, refl, sym, _∙_, ap}
 use Prim.Native.Nat.{_≤_, _<_}
 use native.Mathlib.Omega.{arith}
 use lib.ListN.{set}
-use Rattle.theory.specs.Basics.{Bool, true, false, List, [], _∷_, replicate, Each, ℕ, zero, suc, _*_, _+_, pos}
+use Rattle.theory.specs.Basics.{Bool, true, false, cond, List, [], _∷_, replicate, Each, ℕ, zero, suc, _*_, _+_, pos}
 use Rattle.theory.specs.Basics.{natAbs, getD, length, _/_, _%_}
 use Rattle.theory.specs.Basics.AtPlace.{each-at}
 use Rattle.theory.specs.Digits.{digits}
 use Rattle.theory.specs.Partition.{degree}
-use Rattle.theory.specs.ShapeWord.{shapeOf}
+use Rattle.theory.specs.ShapeWord.{shapeOf, goodShape}
+use Rattle.theory.specs.ShapeWord.Good.{shape-good}
+use Rattle.theory.specs.ShapeWord.InFront.{dropped-shape, good-kept}
 use Rattle.theory.specs.ClassWord.{classOf}
 use Rattle.theory.specs.Limits.{degreeLimit}
 use Rattle.theory.specs.Bounds.Laws.{largestLimit}
 use Rattle.theory.specs.Refusals.{firstOf, refusedOr, shapeChecks, classChecks}
-use Rattle.theory.specs.Refusals.Laws.{Within, within, shape-passes, WithinClass, within-class, class-passes}
+use Rattle.theory.specs.Refusals.Laws.{made-of, Within, within, shape-passes, WithinClass, within-class, class-passes}
 use Rattle.words.specs.Answers.{numberAnswer}
 use Rattle.words.specs.declared.NumberAnswer.{NumberAnswer}
-use Rattle.words.specs.Calls.{shapeDegree, classDegree}
+use Rattle.words.specs.declared.ShapeReading.{ShapeReading}
+use Rattle.words.specs.Calls.{shapeReading, classDegree}
 use Rattle.pages.specs.Private.Degrees.{wordDegree, Known, Knows}
 use Rattle.pages.proofs.Signed.{carried, carried-is}
 
--- ---- an answer, refused with the number k or given
-module _ (k n : ℕ) where
-  abbrev answer : NumberAnswer
-  answer = refusedOr k (λ k. numberAnswer k (pos 0)) (numberAnswer 0 (pos n))
+-- ---- a number, 0 where k refuses it
+abbrev unless : ℕ → ℕ → ℕ
+unless k n = refusedOr k (λ k. 0) n
 
-  given : k ≡ 0 → natAbs (answer .number) ≡ n
-  given z = rw z refl
-
-pub record Natural (limit : ℕ) (a : NumberAnswer) : Type 0 where
-  pub carries : carried (a .number) ≡ pos (natAbs (a .number))
-  pub small : natAbs (a .number) ≤ limit
-
-not-refused : (k n : ℕ) → (natAbs (answer k n .number) ≡ 0 → ⊥) → k ≡ 0
+not-refused : (k n : ℕ) → (unless k n ≡ 0 → ⊥) → k ≡ 0
 not-refused zero n some = refl
 not-refused (suc k) n some = absurd (some refl)
 
-natural : (limit : ℕ) → limit ≤ largestLimit → (k n : ℕ) → (k ≡ 0 → n ≤ limit) → Natural limit (answer k n)
-natural limit room zero n small =
-    let s = small refl in
-    record { carries = carried-is (pos n) (omega arith); small = s }
-natural limit room (suc k) n small = record { carries = refl; small = omega arith }
+stays-small : (limit k n : ℕ) → (k ≡ 0 → n ≤ limit) → unless k n ≤ limit
+stays-small limit zero n small = small refl
+stays-small limit (suc k) n small = omega arith
+
+of-nothing : (k : ℕ) → unless k 0 ≡ 0
+of-nothing zero = refl
+of-nothing (suc k) = refl
 
 -- ---- the degree of a word
-pub shape-natural : (limit s : ℕ) → limit ≤ largestLimit → Natural limit (shapeDegree limit s)
-unfolding shapeDegree
-shape-natural limit s room = natural limit room _ _ (λ z. within limit s z .small)
+shape-told : (limit s : ℕ)
+    → shapeReading limit s .degree ≡ unless (firstOf (shapeChecks limit s)) (degree (shapeOf s))
+unfolding shapeReading
+shape-told limit s = made-of (λ (x : ShapeReading). x .degree) _ _ (firstOf (shapeChecks limit s))
 
-pub class-natural : (limit c : ℕ) → limit ≤ largestLimit → Natural limit (classDegree limit c)
+class-told : (limit c : ℕ)
+    → natAbs (classDegree limit c .number) ≡ unless (firstOf (classChecks limit c)) (degree (classOf c))
 unfolding classDegree
-class-natural limit c room = natural limit room _ _ (λ z. within-class limit c z .small)
+class-told limit c = made-of (λ (x : NumberAnswer). natAbs (x .number)) _ _ (firstOf (classChecks limit c))
+
+shape-small : (limit s : ℕ) → shapeReading limit s .degree ≤ limit
+shape-small limit s = rw (shape-told limit s)
+    (stays-small limit (firstOf (shapeChecks limit s)) _ (λ z. rw (dropped-shape s) at (within limit s z .small)))
+
+pub class-small : (limit c : ℕ) → natAbs (classDegree limit c .number) ≤ limit
+class-small limit c = rw (class-told limit c)
+    (stays-small limit (firstOf (classChecks limit c)) _ (λ z. within-class limit c z .small))
+
+-- it is no negative number
+class-natural : (limit c : ℕ) → classDegree limit c .number ≡ pos (natAbs (classDegree limit c .number))
+unfolding classDegree
+class-natural limit c = go (firstOf (classChecks limit c))
+  where
+    go : (k : ℕ) → let a = refusedOr k (λ k. numberAnswer k (pos 0)) (numberAnswer 0 (pos (degree (classOf c)))) in
+        a .number ≡ pos (natAbs (a .number))
+    go zero = refl
+    go (suc k) = refl
+
+pub class-carried : (limit c : ℕ) → limit ≤ largestLimit
+    → carried (classDegree limit c .number) ≡ pos (natAbs (classDegree limit c .number))
+class-carried limit c room =
+    let n : ℕ = natAbs (classDegree limit c .number) in
+    ap carried (class-natural limit c) ∙ carried-is (pos n) (omega (arith, class-small limit c))
 
 pub word-small : (limit : ℕ) → limit ≤ largestLimit → (b : Bool) (w : ℕ) → wordDegree limit b w ≤ limit
 unfolding wordDegree
-word-small limit room true w = class-natural limit w room .small
-word-small limit room false w = shape-natural limit w room .small
+word-small limit room true w = class-small limit w
+word-small limit room false w = go (goodShape w)
+  where
+    go : (b : Bool) → cond b (shapeReading limit w .degree) 0 ≤ limit
+    go true = shape-small limit w
+    go false = omega arith
 
 pub shape-degree-is : {limit s : ℕ} → Within limit s → wordDegree limit false s ≡ degree (shapeOf s)
-unfolding wordDegree shapeDegree
-shape-degree-is {limit} {s} w =
-    given (firstOf (shapeChecks limit s)) _ (shape-passes w)
+unfolding wordDegree
+shape-degree-is {limit} {s} w = rw (shape-good (w .good), shape-told limit s, shape-passes w)
 
 pub class-degree-is : {limit c : ℕ} → WithinClass limit c → wordDegree limit true c ≡ degree (classOf c)
-unfolding wordDegree classDegree
-class-degree-is {limit} {c} w =
-    given (firstOf (classChecks limit c)) _ (class-passes w)
+unfolding wordDegree
+class-degree-is {limit} {c} w = rw (class-told limit c, class-passes w)
 
 pub shape-degree-some : (limit s : ℕ) → (wordDegree limit false s ≡ 0 → ⊥) → Within limit s
-unfolding wordDegree shapeDegree
-shape-degree-some limit s some = within limit s (not-refused _ _ some)
+unfolding wordDegree
+shape-degree-some limit s some = go (goodShape s) refl some
+  where
+    go : (b : Bool) → goodShape s ≡ b → (cond b (shapeReading limit s .degree) 0 ≡ 0 → ⊥) → Within limit s
+    go true good some =
+        let none = not-refused (firstOf (shapeChecks limit s)) _ (λ z. some (shape-told limit s ∙ z)) in
+        rw (good-kept s good) at (within limit s none)
+    go false bad some = absurd (some refl)
 
 pub class-degree-some : (limit c : ℕ) → (wordDegree limit true c ≡ 0 → ⊥) → WithinClass limit c
-unfolding wordDegree classDegree
-class-degree-some limit c some = within-class limit c (not-refused _ _ some)
+unfolding wordDegree
+class-degree-some limit c some =
+    within-class limit c (not-refused (firstOf (classChecks limit c)) _ (λ z. some (class-told limit c ∙ z)))
 
 -- ---- what is remembered
-zero-number : (k : ℕ) → natAbs (answer k 0 .number) ≡ 0
-zero-number zero = refl
-zero-number (suc k) = refl
+no-shape : degree (shapeOf 0) ≡ 0
+unfolding digits
+no-shape = refl
+
+no-class : degree (classOf 0) ≡ 0
+unfolding digits
+no-class = refl
 
 zero-word : (limit : ℕ) (b : Bool) → wordDegree limit b 0 ≡ 0
-unfolding wordDegree shapeDegree classDegree digits
-zero-word limit true = zero-number (firstOf (classChecks limit 0))
-zero-word limit false = zero-number (firstOf (shapeChecks limit 0))
+unfolding wordDegree
+zero-word limit true =
+    let k : ℕ = firstOf (classChecks limit 0) in
+    class-told limit 0 ∙ ap (unless k) no-class ∙ of-nothing k
+zero-word limit false =
+    let k : ℕ = firstOf (shapeChecks limit 0) in
+    shape-told limit 0 ∙ ap (unless k) no-shape ∙ of-nothing k
 
 zeros-known : (limit : ℕ) (b : Bool) (n : ℕ) → Each (Known (wordDegree limit b)) (replicate n 0)
 zeros-known limit b zero = tt

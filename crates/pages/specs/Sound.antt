@@ -1,6 +1,7 @@
--- Sound slip and page (document 01, "Sound slip and page").
+-- Sound slip and page (document 01, "Sound slip and page"; document 02, P6: "Slips and lines keep good words").
 --   soundLine n l                 a good shape word and a good class word of one degree, 1 to n
 --   lineValue l, lineSpan l       what a line counts: d! as often as its weight's size, and S(d)
+--   soundWords limit slip         the slip's shape word is good, and the slip's words pass checks 1 to 5
 --   soundLines limit slip lines   what is asked of a slip and its lines, however these are written down
 --   sound limit slip page         the same of the lines of a page that they fit, every word after them being 0
 --   pageChecks ..                 the checks 6 and 7 of a slip and a page
@@ -29,9 +30,12 @@ lineValue l = natAbs (l .weight) * factorial (lineDegree l)
 abbrev pub lineSpan : Line → ℕ
 lineSpan l = S (lineDegree l)
 
+abbrev pub soundWords : ℕ → Slip → Bool
+soundWords limit slip = goodShape (slip .shape) && firstOf (pairChecks limit (slip .shape) (slip .class)) =? 0
+
 unfoldable pub soundLines : ℕ → Slip → List Line → Bool
 soundLines limit slip lines =
-    firstOf (pairChecks limit (slip .shape) (slip .class)) =? 0
+    soundWords limit slip
     && every (soundLine n) lines
     && natAbs (slip .settled) + total (map lineValue lines) ≤? factorial n
     && nonNeg (slip .steps)

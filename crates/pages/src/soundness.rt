@@ -18,6 +18,7 @@ use super::PAGE_LIMIT;
 use super::Slip;
 use super::lines;
 use super::pairs;
+use words::SHAPE_WORDS;
 use words::classes::FACTORIALS;
 
 // S(d), the most steps that a line of degree d can take, for the degrees 0 to 16.
@@ -76,6 +77,9 @@ fn first(slip: Slip, factorials: &[u64], spans: &[u64]) -> Budget
     requires { ⌜ Tabled degreeLimit factorial (now factorials) × Tabled degreeLimit S (now spans) ⌝ }
     ensures { λ r. ⌜ r ≡ budgetOf degreeLimit slip ⌝ }
 {
+    if SHAPE_WORDS <= slip.shape {
+        return overspent();
+    }
     let asked = pairs::common_degree(slip.shape, slip.class);
     if asked.refused != 0 {
         return overspent();
@@ -122,7 +126,10 @@ fn read(class: bool, word: u32) -> u32
     if class {
         return words::classes::degree(word).number as u32;
     }
-    words::shapes::degree(word).number as u32
+    if SHAPE_WORDS <= word {
+        return 0;
+    }
+    words::shapes::read(word).degree
 }
 
 // The same, read only where it is not known: what is found of a word is written to its place, where places are lent.
@@ -225,8 +232,8 @@ fn spent(budget: Budget, lines: &[u64], factorials: &[u64], spans: &[u64]) -> Bu
     spent_with(budget, lines, factorials, spans, &mut shapes, &mut classes)
 }
 
-// What n! and S(n) leave after the settled size and the steps; not enough where the slip's words are refused, the steps
-// are negative, or one does not suffice.
+// What n! and S(n) leave after the settled size and the steps; not enough where the slip's words are not sound, the
+// steps are negative, or one does not suffice.
 pub fn budget(slip: Slip) -> Budget
     ensures { λ r. ⌜ r ≡ budgetOf degreeLimit slip ⌝ }
 {

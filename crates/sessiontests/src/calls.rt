@@ -6,6 +6,7 @@ use super::comparing::same;
 use super::comparing::same_slip;
 use super::drawing::PAGE;
 use super::drawing::asked;
+use super::drawing::in_front;
 use characters::Handed;
 use characters::sessions;
 use pages::Slip;
@@ -34,23 +35,31 @@ pub fn counted(slip: Slip, other: Slip, steps: i64) -> bool {
         & (slip.steps == numbers::sum(other.steps, steps))
 }
 
-// A drawn opening. It has a line, unless it is of degree 0, so there is always room for it.
+// A drawn opening. It has a line, unless it is of degree 0, so there is always room for it. The run's word has up to
+// three ones more in front than the twin's, and both get the slip and the page of the good word.
 pub fn open(run: Slip, word: u64, page: &mut [u64; PAGE], twin: &mut [u64; PAGE]) -> Found {
     let asked = asked(true, run, word);
-    let handed = sessions::open(asked.shape, asked.class, page);
+    let good = Slip {
+        shape: words::shapes::good(asked.shape).word,
+        class: asked.class,
+        settled: 0,
+        lines: 0,
+        steps: 0,
+    };
+    let handed = sessions::open(in_front(asked.shape, word), asked.class, page);
     let refused = handed.refused;
     let slip = handed.slip;
     let stays = same(page, twin) & blank(slip);
     let other = sessions::open(asked.shape, asked.class, twin);
     let twins = same(page, twin) & same_handed(handed, other);
     let next = if refused == 0 { slip } else { run };
-    let lines = (asked.shape != 0) as usize;
+    let lines = (good.shape != 0) as usize;
     Found {
         slip: next,
         refused,
         wrong: (!twins as usize)
             | ((!((refused == 0) | stays) as usize) << 1)
-            | ((!((refused != 0) | counted(slip, asked, 0)) as usize) << 2)
+            | ((!((refused != 0) | counted(slip, good, 0)) as usize) << 2)
             | ((!conserved(next, page) as usize) << 3)
             | ((!((refused != 10) & ((refused != 0) | (slip.lines == lines))) as usize) << 4),
     }

@@ -57,6 +57,22 @@ pub fn asked(opens: bool, slip: Slip, word: u64) -> Slip {
     }
 }
 
+// A shape word with a one in front, where `more` says so and neither digit nor sign gets lost.
+fn with_a_one(shape: u32, more: bool) -> u32 {
+    if more & (shape % 2 == 0) & (shape < 0x8000_0000) {
+        shape / 2 + 0x4000_0000
+    } else {
+        shape
+    }
+}
+
+// A shape word with none to three ones more in front.
+pub fn in_front(shape: u32, word: u64) -> u32 {
+    let one = with_a_one(shape, (word >> 52) % 4 == 0);
+    let two = with_a_one(one, (word >> 54) % 4 == 0);
+    with_a_one(two, (word >> 56) % 2 == 0)
+}
+
 // A slip, one of its lines, and a cycle to be struck from it.
 pub struct Strike {
     pub slip: Slip,

@@ -95,6 +95,35 @@ pub fn no_hook() -> bool {
         & (ended.steps == 1)
 }
 
+// Document 02, P6: (3,2) with a one in front opens as (3,2), and the empty shape with one as the empty shape.
+pub fn opened_in_front() -> bool {
+    let mut page = [WORD; 2];
+    let empty = sessions::open(0x4000_0000, 0, &mut page);
+    let cleared = (page[0] == 0) & (page[1] == 0);
+    let opened = sessions::open(0x5600_0000, 0x1400_0000, &mut page);
+    (empty.refused == 0)
+        & (empty.slip.shape == 0)
+        & (empty.slip.settled == 1)
+        & cleared
+        & (opened.refused == 0)
+        & (opened.slip.shape == 0x2C00_0000)
+        & (opened.slip.lines == 1)
+        & (page[0] == 0x2C00_0000_1400_0000)
+        & (page[1] == 0)
+}
+
+// A slip or a line with a one in front is not sound.
+pub fn kept_in_front() -> bool {
+    let mut page = [WORD; 1];
+    let mut slip = sessions::open(0x2C00_0000, 0x1400_0000, &mut page).slip;
+    let sound = sessions::page_refusal(slip, &page);
+    page[0] = 0x5600_0000_1400_0000;
+    let line = sessions::page_refusal(slip, &page);
+    page[0] = 0x2C00_0000_1400_0000;
+    slip.shape = 0x5600_0000;
+    (sound == 0) & (line == 7) & (sessions::page_refusal(slip, &page) == 7)
+}
+
 // (3,2) on (3,2), struck by 3: minus (1,1) on (2) is left, and this text is what is saved and loaded.
 pub fn put_away(text: &[u8]) -> bool {
     let word = words::shapes::word(b"\x03\x02").word;

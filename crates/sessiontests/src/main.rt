@@ -104,6 +104,12 @@ fn main() {
             .add(examples::too_long_to_strike()),
     );
     print(
+        b"ones in front",
+        Tally::new()
+            .add(examples::opened_in_front())
+            .add(examples::kept_in_front()),
+    );
+    print(
         b"put away and taken up again",
         Tally::new()
             .add(examples::put_away(

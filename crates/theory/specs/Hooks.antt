@@ -2,11 +2,11 @@
 --   Hook A          a hook: whether its sign is minus, and what it leaves, as digits or as a word
 --   hookAt h ds i   the hook of length h whose zero is digit i, from 1, if there is one; none has length 0
 --   hooks h ds      the hooks of length h, top row first
---   shifted ds      leading ones are shifted out
 --   hookWord hook   the hook with the good word of what it leaves; hookWords h w, the hooks of a good word so
 use Rattle.theory.specs.Basics.{Bool, true, false, not, cond, _&&_, List, [], _∷_, map, length, getD, set}
 use Rattle.theory.specs.Basics.{take, drop, ℕ, _+_, _-_, odd, joined, upFrom}
 use Rattle.theory.specs.Digits.{Digits, digits, word, zeros, width}
+use Rattle.theory.specs.ShapeWord.{shifted}
 pub mod Walk
 pub mod Laws
 pub mod Words
@@ -30,11 +30,6 @@ hookAt h ds i =
 
 unfoldable pub hooks : ℕ → Digits → List (Hook Digits)
 hooks h ds = joined (hookAt h ds) (upFrom 1 (length ds))
-
-abbrev pub shifted : Digits → Digits
-shifted [] = []
-shifted (true ∷ ds) = shifted ds
-shifted (false ∷ ds) = false ∷ ds
 
 abbrev pub hookWord : Hook Digits → Hook ℕ
 hookWord hook = record { minus = hook .minus; leaves = word width (shifted (hook .leaves)) }

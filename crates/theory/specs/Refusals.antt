@@ -1,16 +1,17 @@
 -- Numbers that refuse (document 01, the table and "Order"; document 02, each request's refusals). A check is a test and
 -- the number that it refuses with.
---   no-1 .. no-15       the rows of the table, each once; no-16 and no-17, those of P1; no-18 and no-19, those of P3;
---                       no-20, that of P5
+--   no-1 .. no-15       the rows of the table, each once, no-1 as P6 has it; no-16 and no-17, those of P1; no-18 and
+--                       no-19, those of P3; no-20, that of P5; no-1-good, 1 of a word that has to be good ("save in P5")
 --   firstOf checks      the number of the first check whose test applies, 0 if none does
 --   refusedOr k f x     f k, which refuses with the number k, or x where k is 0
 --   shapeChecks         the checks of a single call on a shape word; classChecks, on a class word; pairChecks, on both
+--   goodShapeChecks     the checks of a shape word that has to be good, as those of lists (P5, P6)
 --   shapeListChecks     the checks of a part list for a shape; classListChecks, for a class
 use Rattle.theory.specs.Basics.{Bool, not, cond, _&&_, List, [], _∷_, length, take, ℕ, zero, suc, _=?_, _<?_}
 use Rattle.theory.specs.Basics.{_≤?_, same}
 use Rattle.theory.specs.Limits.{pageLimit, listLimit}
 use Rattle.theory.specs.Partition.{Parts, isPartition, degree, times}
-use Rattle.theory.specs.ShapeWord.{goodShape, shapeOf}
+use Rattle.theory.specs.ShapeWord.{goodShape, clearSign, shapeOf}
 use Rattle.theory.specs.ClassWord.{goodClass, classOf}
 pub mod Laws
 
@@ -18,7 +19,10 @@ abbrev pub Check : Type 0
 Check = Bool × ℕ
 
 abbrev pub no-1 : ℕ → Check
-no-1 w = (not (goodShape w), 1)
+no-1 w = (not (clearSign w), 1)
+
+abbrev pub no-1-good : ℕ → Check
+no-1-good w = (not (goodShape w), 1)
 
 abbrev pub no-2 : ℕ → Parts → Check
 no-2 limit shape = (limit <? degree shape, 2)
@@ -94,6 +98,9 @@ refusedOr (suc k) f x = f (suc k)
 
 abbrev pub shapeChecks : ℕ → ℕ → List Check
 shapeChecks limit w = no-1 w ∷ no-2 limit (shapeOf w) ∷ []
+
+abbrev pub goodShapeChecks : ℕ → ℕ → List Check
+goodShapeChecks limit w = no-1-good w ∷ no-2 limit (shapeOf w) ∷ []
 
 abbrev pub classChecks : ℕ → ℕ → List Check
 classChecks limit w = no-3 w ∷ no-4 limit (classOf w) ∷ []

@@ -1,6 +1,7 @@
 pub mod Answers
 pub mod Callers
 pub mod Measures
+pub mod Readings
 pub mod Factorials
 pub mod PartLists
 pub mod Columns

@@ -6,11 +6,11 @@ use Prim.Native.Nat.{_≤_, _<_}
 use native.Mathlib.Decide.{ℕ-discrete}
 use native.Mathlib.Omega.{arith}
 use borrow.Author.Tests.{ltb-false, not-false}
-use Rattle.theory.specs.Basics.{Bool, true, false, cond, List, [], _∷_, _++_, length, ℕ, ℤ, pos, _<?_, _^_}
+use Rattle.theory.specs.Basics.{Bool, true, false, cond, List, [], _∷_, _++_, length, ℕ, ℤ, pos, _<?_}
 use Rattle.theory.specs.Partition.{Parts, isPartition, degree}
 use Rattle.theory.specs.ClassWord.{classOf}
 use Rattle.theory.specs.Bounds.Laws.{largestLimit}
-use Rattle.theory.specs.Refusals.{Check, firstOf, refusedOr, no-14, shapeChecks, classChecks}
+use Rattle.theory.specs.Refusals.{Check, firstOf, refusedOr, no-14, classChecks}
 use Rattle.theory.specs.Refusals.Laws.{Numbered, or-refused, answer-number, answer-given, none-applies, first-refuses}
 use Rattle.theory.specs.Refusals.Laws.{first-passes, both-pass, within, WithinClass, within-class}
 use Rattle.words.specs.declared.Measure.{Measure}
@@ -60,9 +60,6 @@ module _ (checks : List Check) (ps : Parts) where
     number-handed z n f = f ∙ number-refused checks z (m .refused) measure-number n
 
 -- ---- words and lists that pass
-pub shape-below : (limit w : ℕ) → firstOf (shapeChecks limit w) ≡ 0 → w < 2 ^ 31
-shape-below limit w e = omega (arith, within limit w e .good .below)
-
 pub record ClassMeasures (limit w : ℕ) (m : Measure) : Type 0 where
   pub found : Measures (classChecks limit w) (classOf w) m
   pub within : WithinClass limit w

@@ -6,6 +6,8 @@ use Rattle.words.specs.Answers.Laws.{one-outcome}
 use Rattle.words.specs.Calls.{shapePartsInto, shapesFromOld, shapesToOld, classPartsInto}
 use Rattle.words.specs.Calls.Laws.{one-period-told}
 use Rattle.words.proofs.shapes.word.Reads as shape-word
+use Rattle.words.proofs.shapes.read.Reads as shape-reading
+use Rattle.words.proofs.shapes.good.Reads as good-shape
 use Rattle.words.proofs.shapes.parts.Reads as shape-parts
 use Rattle.words.proofs.shapes.degree.Reads as shape-degree
 use Rattle.words.proofs.shapes.conjugate.Reads as conjugate
@@ -22,6 +24,14 @@ use Rattle.words.proofs.classes.period.Reads as class-period
 pub shape-word-once : (κs : _) (a : _) (r r′ : _) (s s′ : _) → shape-word.Post κs a r s → shape-word.Post κs a r′ s′
     → r ≡ r′
 shape-word-once κs a r r′ s s′ p q = p ∙ sym q
+
+pub shape-reading-once : (κs : _) (a : _) (r r′ : _) (s s′ : _) → shape-reading.Post κs a r s
+    → shape-reading.Post κs a r′ s′ → r ≡ r′
+shape-reading-once κs a r r′ s s′ p q = p ∙ sym q
+
+pub good-shape-once : (κs : _) (a : _) (r r′ : _) (s s′ : _) → good-shape.Post κs a r s → good-shape.Post κs a r′ s′
+    → r ≡ r′
+good-shape-once κs a r r′ s s′ p q = p ∙ sym q
 
 pub shape-parts-once : (κs : _) (a : _) (r r′ : _) (s s′ : _) → shape-parts.Post κs a r s → shape-parts.Post κs a r′ s′
     → (r ≡ r′) × (now (s .1 .0) ≡ now (s′ .1 .0))

@@ -1,6 +1,7 @@
 -- The answers of the calls (document 01, "Order": a refused number or word is 0; "Part list"; "What the contracts have
 -- to say").
 --   Outcome x answer run            a call that is promised the pair x gives this answer and leaves its lent run so
+--   wordAnswer .. reading           the answers, by their fields
 --   worded checks w                 the word w, or the number that refuses beside 0; numbered checks z, the number z
 --   NumberedBy checks P answer      the answer gives a number of which P holds, or the number that refuses beside 0
 --   atFront xs column               xs at the front of a lent column, the rest of it stays
@@ -11,6 +12,8 @@ use Rattle.theory.specs.Refusals.{Check, firstOf, refusedOr}
 pub use Rattle.words.specs.declared.WordAnswer.{WordAnswer}
 pub use Rattle.words.specs.declared.NumberAnswer.{NumberAnswer}
 pub use Rattle.words.specs.declared.CountAnswer.{CountAnswer}
+pub use Rattle.words.specs.declared.GoodAnswer.{GoodAnswer}
+pub use Rattle.words.specs.declared.ShapeReading.{ShapeReading}
 pub mod Laws
 
 pub record Outcome {A B : Type 0} (x : A × B) (answer : A) (run : B) : Type 0 where
@@ -25,6 +28,12 @@ numberAnswer k z = record { refused = k; number = z }
 
 abbrev pub countAnswer : ℕ → ℕ → CountAnswer
 countAnswer k n = record { refused = k; count = n }
+
+abbrev pub goodAnswer : ℕ → ℕ → ℕ → GoodAnswer
+goodAnswer k w n = record { refused = k; word = w; dropped = n }
+
+abbrev pub reading : ℕ → ℕ → ℕ → ℕ → ShapeReading
+reading k w n d = record { refused = k; word = w; dropped = n; degree = d }
 
 abbrev pub worded : List Check → ℕ → WordAnswer
 worded checks w = refusedOr (firstOf checks) (λ k. wordAnswer k 0) (wordAnswer 0 w)

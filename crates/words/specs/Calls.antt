@@ -1,22 +1,34 @@
 -- What the calls on one partition promise (document 01, "Words", "The character", second paragraph, "Order"; document
--- 02, P2), and those on lists of shapes (document 02, P5).
+-- 02, P2 and P6), and those on lists of shapes (document 02, P5).
 -- Each has the name of what it gives; `Into` writes to the front of a lent column. The limit on degrees comes first.
+--   shapeReading w           what the one reader of shape words finds: the good word, the ones dropped, the degree
 --   PeriodOfClass w answer   the answer gives the period of the class of the word w, or refuses
 use Rattle.theory.specs.Basics.{List, ℕ, pos}
 use Rattle.theory.specs.Partition.{Parts, degree}
-use Rattle.theory.specs.ShapeWord.{shapeWord, shapeOf, conjugateWord}
+use Rattle.theory.specs.ShapeWord.{shapeWord, shapeOf, conjugateWord, goodWord, dropped}
 use Rattle.theory.specs.ClassWord.{classWord, classOf}
 use Rattle.theory.specs.ClassData.{classSign, classSize, Period}
-use Rattle.theory.specs.Refusals.{shapeChecks, classChecks, shapeListChecks, classListChecks, no-14}
+use Rattle.theory.specs.Refusals.{firstOf, refusedOr, shapeChecks, goodShapeChecks, classChecks, shapeListChecks}
+use Rattle.theory.specs.Refusals.{classListChecks, no-14}
 use Rattle.theory.specs.OldForm.{newWord, oldWord}
 use Rattle.words.specs.Lists.{ListAnswer, moved}
 use Rattle.words.specs.Answers.{worded, numbered, NumberedBy, written, WordAnswer, NumberAnswer, CountAnswer}
+use Rattle.words.specs.Answers.{goodAnswer, reading, GoodAnswer, ShapeReading}
 pub mod Laws
 
 module _ (limit : ℕ) where
   -- ---- shapes
   unfoldable pub shapeWordFrom : Parts → WordAnswer
   shapeWordFrom ps = worded (shapeListChecks limit ps) (shapeWord ps)
+
+  unfoldable pub shapeReading : ℕ → ShapeReading
+  shapeReading w =
+      refusedOr (firstOf (shapeChecks limit w)) (λ k. reading k 0 0 0)
+      (reading 0 (goodWord w) (dropped w) (degree (shapeOf w)))
+
+  unfoldable pub goodShapeWord : ℕ → GoodAnswer
+  goodShapeWord w =
+      refusedOr (firstOf (shapeChecks limit w)) (λ k. goodAnswer k 0 0) (goodAnswer 0 (goodWord w) (dropped w))
 
   unfoldable pub shapePartsInto : ℕ → Parts → CountAnswer × Parts
   shapePartsInto w column = written (shapeChecks limit w) no-14 (shapeOf w) column
@@ -32,7 +44,7 @@ module _ (limit : ℕ) where
   shapesFromOld old new = moved (classChecks limit) newWord old new
 
   unfoldable pub shapesToOld : List ℕ → List ℕ → ListAnswer × List ℕ
-  shapesToOld new old = moved (shapeChecks limit) oldWord new old
+  shapesToOld new old = moved (goodShapeChecks limit) oldWord new old
 
   -- ---- classes
   unfoldable pub classWordFrom : Parts → WordAnswer

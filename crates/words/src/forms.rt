@@ -13,6 +13,7 @@ ghost use Rattle.words.specs.Lists.{firstBad, moved as movedList};
 ghost use Rattle.words.specs.Private.Forms.{formChecks, otherForm};
 use super::LIST_LIMIT;
 use super::ListAnswer;
+use super::SHAPE_WORDS;
 use super::classes;
 use super::shapes;
 
@@ -68,13 +69,17 @@ fn old_word(word: u32) -> u32
     bits
 }
 
-// The number that refuses a word, as the call for its degree gives it; 0 for none.
+// The number that refuses a word, as the call for its degree gives it; 0 for none. A list keeps good words: a new word of
+// 2^30 or more is refused 1.
 fn refusal(word: u32, old: bool) -> u8
     ensures { λ r. ⌜ r ≡ firstOf (formChecks degreeLimit old word) ⌝ }
 {
     if old {
         let answer = classes::degree(word);
         return answer.refused;
+    }
+    if SHAPE_WORDS <= word {
+        return 1;
     }
     let answer = shapes::degree(word);
     answer.refused

@@ -23,6 +23,22 @@ pub struct NumberAnswer {
     pub number: i64,
 }
 
+// The good word of a shape word, and how many ones in front were dropped.
+pub struct GoodAnswer {
+    pub refused: u8,
+    pub word: u32,
+    pub dropped: u32,
+}
+
+// What the reader of a shape word finds: why it is refused, or its good word, how many ones in front were dropped, and
+// its degree.
+pub struct ShapeReading {
+    pub refused: u8,
+    pub word: u32,
+    pub dropped: u32,
+    pub degree: u32,
+}
+
 // How many parts were written to the front of a lent column.
 pub struct CountAnswer {
     pub refused: u8,
@@ -35,7 +51,7 @@ pub struct ListAnswer {
     pub index: usize,
 }
 
-// What the reader of a shape word or of a class word finds: why it is refused, or its degree and how many parts it has.
+// What is told of the parts of a word: why it is refused, or its degree and how many parts it has.
 struct Measure {
     refused: u8,
     degree: u32,
@@ -44,6 +60,9 @@ struct Measure {
 
 // The greatest degree.
 pub const LIMIT: u32 = 16;
+
+// Good shape words are the numbers below this.
+pub const SHAPE_WORDS: u32 = 0x4000_0000;
 
 // The most words of a list of shapes.
 pub const LIST_LIMIT: usize = 4096;

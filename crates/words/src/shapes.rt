@@ -1,21 +1,23 @@
-// Shape words (document 01, "Shape word" and "Conjugate"), and lists of them (document 02, P5).
+// Shape words (document 01, "Shape word" and "Conjugate"; document 02, P6: ones in front are dropped), and lists of
+// them (document 02, P5), which keep good words.
 ghost use mathlib.Core.Path.{_≡_};
 ghost use Prim.Native.Nat.{_<_, _≤_, _^_};
 ghost use Rattle.theory.specs.Basics.{length};
 ghost use Rattle.theory.specs.Partition.{degree};
-ghost use Rattle.theory.specs.ShapeWord.{shapeWord, shapeOf, conjugateWord};
+ghost use Rattle.theory.specs.ShapeWord.{shapeWord, shapeOf, conjugateWord, dropped};
 ghost use Rattle.theory.specs.Limits.{degreeLimit};
 ghost use Rattle.theory.specs.Bounds.Laws.{largestLimit};
-ghost use Rattle.theory.specs.Refusals.{shapeChecks};
-ghost use Rattle.words.specs.Answers.{Outcome, atFront};
-ghost use Rattle.words.specs.Private.Reading.{measured, ListWithin};
-ghost use Rattle.words.specs.Calls.{shapeWordFrom, shapePartsInto, shapeDegree, conjugateShape};
-ghost use Rattle.words.specs.Calls.{shapesFromOld, shapesToOld};
+ghost use Rattle.words.specs.Answers.{Outcome, atFront, reading};
+ghost use Rattle.words.specs.Private.Reading.{ListWithin};
+ghost use Rattle.words.specs.Calls.{shapeWordFrom, shapeReading, goodShapeWord, shapePartsInto, shapeDegree};
+ghost use Rattle.words.specs.Calls.{conjugateShape, shapesFromOld, shapesToOld};
 use super::CountAnswer;
+use super::GoodAnswer;
 use super::LIMIT;
 use super::ListAnswer;
 use super::Measure;
 use super::NumberAnswer;
+use super::ShapeReading;
 use super::WordAnswer;
 use super::count_within;
 use super::forms;
@@ -55,7 +57,7 @@ pub fn word(parts: &[u8]) -> WordAnswer
     }
 }
 
-// The degree of a good shape word: each one is paired with the zeros before it.
+// The degree of a shape word: each one is paired with the zeros before it.
 fn pairs(word: u32) -> u32
     requires { ⌜ word < 2 ^ 31 ⌝ }
     ensures { λ r. ⌜ r ≡ degree (shapeOf word) ⌝ }
@@ -85,29 +87,57 @@ fn row_count(word: u32) -> u32
     31 - u32::trailing_zeros(word) - u32::count_ones(word)
 }
 
-// The one reader of shape words.
-fn read(word: u32) -> Measure
-    ensures { λ r. ⌜ r ≡ measured (shapeChecks degreeLimit word) (shapeOf word) ⌝ }
+// How many ones stand in front of a word's digits.
+fn ones_in_front(word: u32) -> u32
+    requires { ⌜ word < 2 ^ 31 ⌝ }
+    ensures { λ r. ⌜ r ≡ dropped word ⌝ }
 {
-    if 0x4000_0000 <= word {
-        return Measure {
-            refused: 1,
-            degree: 0,
-            count: 0,
-        };
+    u32::leading_zeros(!(word << 1))
+}
+
+// A reading that is refused.
+fn unread(number: u8) -> ShapeReading
+    ensures { λ r. ⌜ r ≡ reading number 0 0 0 ⌝ }
+{
+    ShapeReading {
+        refused: number,
+        word: 0,
+        dropped: 0,
+        degree: 0,
+    }
+}
+
+// The one reader of shape words: it drops the ones in front, and whoever asks it works on the good word that is left. The
+// degree, which they do not change, is that of the word as it came. Refuses 1, then 2.
+pub fn read(word: u32) -> ShapeReading
+    ensures { λ r. ⌜ r ≡ shapeReading degreeLimit word ⌝ }
+{
+    if 0x8000_0000 <= word {
+        return unread(1);
     }
     let degree = pairs(word);
     if LIMIT < degree {
-        return Measure {
-            refused: 2,
-            degree: 0,
-            count: 0,
-        };
+        return unread(2);
     }
-    Measure {
+    let dropped = ones_in_front(word);
+    let good = (word << dropped) % 0x8000_0000;
+    ShapeReading {
         refused: 0,
+        word: good,
+        dropped,
         degree,
-        count: row_count(word),
+    }
+}
+
+// The good word of a shape word, and how many ones in front were dropped. Refuses 1, then 2.
+pub fn good(word: u32) -> GoodAnswer
+    ensures { λ r. ⌜ r ≡ goodShapeWord degreeLimit word ⌝ }
+{
+    let shape = read(word);
+    GoodAnswer {
+        refused: shape.refused,
+        word: shape.word,
+        dropped: shape.dropped,
     }
 }
 
@@ -137,11 +167,17 @@ fn write_rows(word: u32, column: &mut [u8])
 pub fn parts(word: u32, column: &mut [u8]) -> CountAnswer
     ensures { λ r. ⌜ Outcome (shapePartsInto degreeLimit word (now (column .entry))) r (now (column .exit)) ⌝ }
 {
-    let answer = count_within(read(word), column.len());
+    let shape = read(word);
+    let measure = Measure {
+        refused: shape.refused,
+        degree: shape.degree,
+        count: row_count(shape.word),
+    };
+    let answer = count_within(measure, column.len());
     if answer.refused != 0 {
         return answer;
     }
-    write_rows(word, column);
+    write_rows(shape.word, column);
     answer
 }
 
@@ -149,11 +185,11 @@ pub fn parts(word: u32, column: &mut [u8]) -> CountAnswer
 pub fn degree(word: u32) -> NumberAnswer
     ensures { λ r. ⌜ r ≡ shapeDegree degreeLimit word ⌝ }
 {
-    let measure = read(word);
-    if measure.refused != 0 {
-        return refused(measure.refused);
+    let shape = read(word);
+    if shape.refused != 0 {
+        return refused(shape.refused);
     }
-    given(measure.degree as u64)
+    given(shape.degree as u64)
 }
 
 // The digits up to the last one, in reverse order and complemented.
@@ -180,20 +216,20 @@ fn flipped(word: u32) -> u32
 pub fn conjugate(word: u32) -> WordAnswer
     ensures { λ r. ⌜ r ≡ conjugateShape degreeLimit word ⌝ }
 {
-    let measure = read(word);
-    if measure.refused != 0 {
+    let shape = read(word);
+    if shape.refused != 0 {
         return WordAnswer {
-            refused: measure.refused,
+            refused: shape.refused,
             word: 0,
         };
     }
     WordAnswer {
         refused: 0,
-        word: flipped(word),
+        word: flipped(shape.word),
     }
 }
 
-// The shape words of shapes that are packed by the first method, as classes are, entry by entry. Refuses 20, then with
+// The good words of shapes that are packed by the first method, as classes are, entry by entry. Refuses 20, then with
 // the index of the first bad entry 3 or 4; a refused list writes nothing.
 pub fn from_old(old: &[u32], new: &mut [u32]) -> ListAnswer
     ensures { λ r. ⌜ Outcome (shapesFromOld degreeLimit (now (old .entry)) (now (new .entry))) r (now (new .exit)) ⌝ }
@@ -201,7 +237,7 @@ pub fn from_old(old: &[u32], new: &mut [u32]) -> ListAnswer
     forms::moved(old, new, true)
 }
 
-// And back. Refuses 20, then with the index of the first bad entry 1 or 2.
+// And back. Refuses 20, then with the index of the first bad entry 1, where it is 2^30 or more, or 2.
 pub fn to_old(new: &[u32], old: &mut [u32]) -> ListAnswer
     ensures { λ r. ⌜ Outcome (shapesToOld degreeLimit (now (new .entry)) (now (old .entry))) r (now (old .exit)) ⌝ }
 {

@@ -45,17 +45,38 @@ fn word(t: Tally, word: u32, shape: u8, n: i64, class: u8, m: i64) -> Tally {
     as_class(as_shape(t, word, shape, n), word, class, m)
 }
 
-// E4 is the second and the fifth, E6 the seventh and the eighth.
+// E4 is the fourth, E6 the sixth and the seventh.
 pub fn words() -> Tally {
     let t = word(Tally::new(), 0x3FFF_FFFF, 2, 0, 4, 0);
-    let t = word(t, 0x4000_0000, 1, 0, 0, 1);
     let t = word(t, 0x8000_0000, 1, 0, 3, 0);
     let t = word(t, 0xFFFF_FFFF, 1, 0, 3, 0);
     let t = word(t, 0x3FFF_E000, 2, 0, 4, 0);
     let t = word(t, 0x3FFF_C000, 0, 16, 4, 0);
-    let t = word(t, 0x5000_0000, 1, 0, 3, 0);
+    let t = word(t, 0x5000_0000, 0, 1, 3, 0);
+    let t = word(t, 0x5FFF_F000, 2, 0, 3, 0);
     let t = word(t, 0x0000_4000, 0, 16, 4, 0);
     word(t, 0x0000_8000, 0, 15, 0, 16)
+}
+
+// The good word of a word and the ones dropped in front; or the number that refuses it, and 0 and 0.
+fn good(t: Tally, word: u32, refused: u8, left: u32, dropped: u32) -> Tally {
+    let told = words::shapes::good(word);
+    t.add((told.refused == refused) & (told.word == left) & (told.dropped == dropped))
+}
+
+// E4 is the first and the sixth. The seventh is a row of 17 with a one in front.
+pub fn ones_in_front() -> Tally {
+    let t = good(Tally::new(), 0x4000_0000, 0, 0, 1);
+    let t = good(t, 0x7FFF_FFFF, 0, 0, 31);
+    let t = good(t, 0x7FFF_8000, 0, 0, 16);
+    let t = good(t, 0x8000_0000, 1, 0, 0);
+    let t = good(t, 0xFFFF_FFFF, 1, 0, 0);
+    let t = good(t, 0x3FFF_E000, 2, 0, 0);
+    let t = good(t, 0x5FFF_F000, 2, 0, 0);
+    let t = good(t, 0x5000_0000, 0, 0x2000_0000, 1);
+    let t = good(t, 0x3FFF_C000, 0, 0x3FFF_C000, 0);
+    let t = good(t, 0x7FFF_FFFD, 0, 0x2000_0000, 29);
+    good(t, 0, 0, 0, 0)
 }
 
 fn is(made: WordAnswer, refused: u8, word: u32) -> bool {

@@ -5,6 +5,7 @@ mod borders;
 mod class_data;
 mod columns;
 mod conjugates;
+mod in_front;
 mod old_lists;
 mod partitions;
 mod walk;
@@ -19,6 +20,7 @@ fn print_words(found: Found) {
     print(b"the listing has it at this rank", found.listed);
     print(b"columns too short and longer", found.columns);
     print(b"old form and new", found.forms);
+    print(b"with ones in front, as many as fit", found.in_front);
 }
 
 fn print_told(found: Found) {
@@ -33,6 +35,7 @@ fn main() {
     print_words(found);
     print_told(found);
     print(b"words at a border, E4, E6", borders::words());
+    print(b"ones in front at a border, E4", borders::ones_in_front());
     print(b"lists at a border, E1, E2, E3, E5", borders::lists());
     print(
         b"all partitions in one list, to the old form and back",

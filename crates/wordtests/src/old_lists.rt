@@ -121,12 +121,13 @@ fn bad(t: Tally, kind: Kind, word: u32, refused: u8) -> Tally {
         .add(bad_at(kind, LIST_LIMIT - 1, word, refused))
 }
 
-// Old words with bit 31 set, with a rise and of degree 17; new ones of 2^30 and of degree 17.
+// Old words with bit 31 set, with a rise and of degree 17; new ones of 2^30, of degree 17, and of both kinds.
 fn bad_words(t: Tally) -> Tally {
     let t = bad(t, Kind::Class, 0x8000_0000, 3);
     let t = bad(t, Kind::Class, 0x5000_0000, 3);
     let t = bad(t, Kind::Class, 0x0000_4000, 4);
     let t = bad(t, Kind::Shape, 0x4000_0000, 1);
+    let t = bad(t, Kind::Shape, 0x5FFF_F000, 1);
     bad(t, Kind::Shape, 0x3FFF_E000, 2)
 }
 

@@ -6,6 +6,7 @@ use super::columns::Kind;
 use super::columns::fit;
 use super::columns::there_and_back;
 use super::conjugates;
+use super::in_front;
 use super::old_lists;
 use super::partitions;
 use testing::Tally;
@@ -21,6 +22,7 @@ pub struct Found {
     pub listed: Tally,
     pub columns: Tally,
     pub forms: Tally,
+    pub in_front: Tally,
     pub conjugates: Tally,
     pub signs: Tally,
     pub periods: Tally,
@@ -38,6 +40,7 @@ fn meet_words(found: Found, shape: WordAnswer, class: WordAnswer, parts: &[u8], 
     f.classes = f.classes.add(there_and_back(Kind::Class, class, parts, n));
     f.columns = f.columns.add(columns);
     f.forms = f.forms.add(old_lists::agrees(shape.word, class.word));
+    f.in_front = in_front::meet(f.in_front, shape.word, parts, n);
     f.conjugates = f.conjugates.add(conjugates::agrees(shape.word, parts));
     f
 }
@@ -107,6 +110,7 @@ fn nothing() -> Found {
         listed: none,
         columns: none,
         forms: none,
+        in_front: none,
         conjugates: none,
         signs: none,
         periods: none,

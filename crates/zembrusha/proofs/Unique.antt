@@ -13,6 +13,7 @@ use Rattle.sessiontext.specs.Calls.{saveInto, loadInto}
 use Rattle.zembrusha.specs.Exports.{counted, listed, given, handedRun, loadedRun}
 use Rattle.zembrusha.proofs.singles.zembrusha_character.Reads as character
 use Rattle.zembrusha.proofs.singles.zembrusha_character_refusal.Reads as character-refusal
+use Rattle.zembrusha.proofs.singles.zembrusha_good_shape.Reads as good-shape
 use Rattle.zembrusha.proofs.singles.zembrusha_degree.Reads as degree
 use Rattle.zembrusha.proofs.singles.zembrusha_degree_refusal.Reads as degree-refusal
 use Rattle.zembrusha.proofs.singles.zembrusha_character_degree.Reads as character-degree
@@ -49,6 +50,10 @@ zembrusha-character-once κs a r r′ s s′ p q = p ∙ sym q
 pub zembrusha-character-refusal-once : (κs : _) (a : _) (r r′ : _) (s s′ : _) → character-refusal.Post κs a r s
     → character-refusal.Post κs a r′ s′ → r ≡ r′
 zembrusha-character-refusal-once κs a r r′ s s′ p q = p ∙ sym q
+
+pub zembrusha-good-shape-once : (κs : _) (a : _) (r r′ : _) (s s′ : _) → good-shape.Post κs a r s
+    → good-shape.Post κs a r′ s′ → r ≡ r′
+zembrusha-good-shape-once κs a r r′ s s′ p q = p ∙ sym q
 
 pub zembrusha-degree-once : (κs : _) (a : _) (r r′ : _) (s s′ : _) → degree.Post κs a r s
     → degree.Post κs a r′ s′ → r ≡ r′

@@ -1,5 +1,6 @@
 -- The answers of the calls as the exports hand them over.
 --   ofWord answer, ofCount answer   the word or the count as a number, the refusal number beside it
+--   ofGood answer                   the good word, the ones dropped and the refusal number
 --   ofList answer                   of a list, the index beside it; listed outcome, with the lent list as it is
 --   given slip                      the slip that the calculator is handed; slipOver slip, one that it hands back
 --   handedOver k slip               with the refusal number k; loadedOver k line slip, of a load, with the text's line
@@ -11,6 +12,7 @@ use mathlib.Core.Path.{_≡_}
 use lib.Ieee.{Float, binary64, ofBits}
 use Rattle.theory.specs.Basics.{List, ℕ, ℤ, pos}
 use Rattle.words.specs.declared.CountAnswer.{CountAnswer}
+use Rattle.words.specs.declared.GoodAnswer.{GoodAnswer}
 use Rattle.words.specs.declared.ListAnswer.{ListAnswer}
 use Rattle.words.specs.declared.NumberAnswer.{NumberAnswer}
 use Rattle.words.specs.declared.WordAnswer.{WordAnswer}
@@ -19,6 +21,7 @@ use Rattle.characters.specs.declared.Handed as calculator-handed
 use Rattle.sessiontext.specs.declared.Loaded as calculator-loaded
 use Rattle.characters.specs.Watch.{Value, whole, quotient, none}
 use Rattle.zembrusha.specs.declared.Number.{Number}
+use Rattle.zembrusha.specs.declared.Good.{Good}
 use Rattle.zembrusha.specs.declared.Listed.{Listed}
 use Rattle.zembrusha.specs.declared.Slip.{Slip}
 use Rattle.zembrusha.specs.declared.Handed.{Handed}
@@ -32,6 +35,9 @@ ofCount a = record { refused = a .refused; number = a .count }
 
 abbrev pub counted : {A : Type 0} → CountAnswer × List A → Number × List A
 counted x = (ofCount (x .0), x .1)
+
+abbrev pub ofGood : GoodAnswer → Good
+ofGood a = record { refused = a .refused; word = a .word; dropped = a .dropped }
 
 abbrev pub ofList : ListAnswer → Listed
 ofList a = record { refused = a .refused; index = a .index }

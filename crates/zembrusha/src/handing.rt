@@ -1,6 +1,8 @@
 // How the calls' answers are handed over to C, and a slip is taken from it.
 ghost use mathlib.Core.Path.{_≡_};
-ghost use Rattle.zembrusha.specs.Exports.{ofWord, ofCount, ofList, given, slipOver, handedOver, loadedOver};
+ghost use Rattle.zembrusha.specs.Exports.{ofWord, ofCount, ofGood, ofList, given, slipOver, handedOver};
+ghost use Rattle.zembrusha.specs.Exports.{loadedOver};
+use super::Good;
 use super::Handed;
 use super::Listed;
 use super::Loaded;
@@ -22,6 +24,16 @@ pub fn of_count(answer: words::CountAnswer) -> Number
     Number {
         refused: answer.refused as u32,
         number: answer.count as u64,
+    }
+}
+
+pub fn of_good(answer: words::GoodAnswer) -> Good
+    ensures { λ r. ⌜ r ≡ ofGood answer ⌝ }
+{
+    Good {
+        refused: answer.refused as u32,
+        word: answer.word,
+        dropped: answer.dropped,
     }
 }
 

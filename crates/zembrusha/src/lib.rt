@@ -14,6 +14,14 @@ pub struct Number {
     pub number: u64,
 }
 
+// The good word of a shape word, and how many ones in front were dropped; both are 0 when refused.
+#[repr(C)]
+pub struct Good {
+    pub refused: u32,
+    pub word: u32,
+    pub dropped: u32,
+}
+
 // What refuses a list of words, 0 for nothing, and the index of the first bad word, from 0; 0 where no word is bad.
 #[repr(C)]
 pub struct Listed {

@@ -1,10 +1,14 @@
-// Single calls: one export gives the value, another the refusal number for the same words, 0 for none.
+// Single calls: one export gives the value, another the refusal number for the same words, 0 for none; the good word of
+// a shape comes with its refusal number and the ones dropped in one struct.
 ghost use mathlib.Core.Path.{_≡_};
 ghost use Rattle.theory.specs.Limits.{degreeLimit};
 ghost use Rattle.theory.specs.Refusals.{firstOf, classChecks};
-ghost use Rattle.words.specs.Calls.{shapeDegree, conjugateShape, signOfClass, sizeOfClass, PeriodOfClass};
+ghost use Rattle.words.specs.Calls.{goodShapeWord, shapeDegree, conjugateShape, signOfClass, sizeOfClass};
+ghost use Rattle.words.specs.Calls.{PeriodOfClass};
 ghost use Rattle.characters.specs.Calls.{characterOf, shapeCharacterDegree};
-ghost use Rattle.zembrusha.specs.Exports.{NumberOf};
+ghost use Rattle.zembrusha.specs.Exports.{ofGood, NumberOf};
+use super::Good;
+use super::handing;
 
 // The character of a shape word on a class word.
 #[no_mangle]
@@ -19,6 +23,14 @@ pub extern "C" fn zembrusha_character_refusal(shape: u32, class: u32) -> u32
     ensures { λ r. ⌜ r ≡ characterOf degreeLimit shape class .refused ⌝ }
 {
     characters::character(shape, class).refused as u32
+}
+
+// The good word of a shape word, and how many ones in front were dropped, with the refusal number.
+#[no_mangle]
+pub extern "C" fn zembrusha_good_shape(word: u32) -> Good
+    ensures { λ r. ⌜ r ≡ ofGood (goodShapeWord degreeLimit word) ⌝ }
+{
+    handing::of_good(words::shapes::good(word))
 }
 
 // The degree n of a shape word.

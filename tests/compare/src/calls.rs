@@ -13,6 +13,14 @@ struct Number {
 
 #[repr(C)]
 #[derive(Clone, Copy)]
+struct Good {
+    refused: u32,
+    word: u32,
+    dropped: u32,
+}
+
+#[repr(C)]
+#[derive(Clone, Copy)]
 struct Listed {
     refused: u32,
     index: u64,
@@ -52,6 +60,7 @@ extern "C" {
     fn zembrusha_character_degree_refusal(shape: u32) -> u32;
     fn zembrusha_conjugate(shape: u32) -> u32;
     fn zembrusha_conjugate_refusal(shape: u32) -> u32;
+    fn zembrusha_good_shape(word: u32) -> Good;
     fn zembrusha_class_sign(class: u32) -> i64;
     fn zembrusha_class_sign_refusal(class: u32) -> u32;
     fn zembrusha_class_size(class: u32) -> i64;
@@ -115,6 +124,12 @@ pub fn character_degree(shape: u32) -> Valued<i64> {
 
 pub fn conjugate(shape: u32) -> Valued<u32> {
     unsafe { (zembrusha_conjugate(shape), zembrusha_conjugate_refusal(shape)) }
+}
+
+/// The good word, and how many ones were dropped.
+pub fn good_shape(word: u32) -> Valued<(u32, u32)> {
+    let answer = unsafe { zembrusha_good_shape(word) };
+    ((answer.word, answer.dropped), answer.refused)
 }
 
 pub fn class_sign(class: u32) -> Valued<i64> {

@@ -15,7 +15,7 @@ use std::process::ExitCode;
 /// The comparisons of a group.
 type Run = fn(&Characters, &mut Group);
 
-const GROUPS: [(&str, Run); 15] = [
+const GROUPS: [(&str, Run); 17] = [
     ("examples", groups::examples::run),
     ("every shape on every class", groups::pairs::run),
     ("sessions to their ends", groups::ends::run),
@@ -24,6 +24,8 @@ const GROUPS: [(&str, Run); 15] = [
     ("part lists", groups::lists::run),
     ("words", groups::words::run),
     ("pairs of words", groups::words::run_pairs),
+    ("words with ones in front", groups::in_front::run),
+    ("good words kept", groups::kept::run),
     ("old shape lists", groups::old_lists::run),
     ("strips", groups::strips::run),
     ("long pages", groups::long::run),

@@ -1,6 +1,10 @@
--- `characters::character` meets its contract: a check refuses, or the pair has a value.
+-- `characters::character` meets its contract: a check refuses, or the pair has a value, by its good word.
+use mathlib.Core.Path.{_∙_, ap}
 use native.Mathlib.Omega.{arith}
 use borrow.Author.Needs.{needs}
+use Rattle.theory.specs.Partition.{Parts}
+use Rattle.theory.specs.ClassWord.{classOf}
+use Rattle.theory.specs.Character.{_on_}
 use Rattle.theory.specs.Refusals.{pairChecks}
 use Rattle.theory.specs.Limits.{degreeLimit}
 use Rattle.words.proofs.Answers.{number-refused, number-given}
@@ -37,7 +41,9 @@ returns-2 c =
     let start = c .before .before .before .before in
     let p = pair (c .before) in
     number-given (pairChecks degreeLimit (start .args .shape) (start .args .class)) _ _ (p .none)
-    (rw (c .value .ensures) (character-carried (widened (pair-evaluable (p .words)) (omega arith))))
+    (rw (c .value .ensures)
+    (character-carried (widened (pair-evaluable (p .words)) (omega arith))
+    ∙ ap (λ (rs : Parts). rs on classOf (start .args .class)) (p .its-shape)))
 
 pub character-spec : {M : Type 1} → statement M
 character-spec = tie.close (tie.spec common-degree-requires returns value-requires returns-2)

@@ -4,6 +4,7 @@ use Rattle.theory.specs.Character.{character}
 use Rattle.theory.specs.Digits.{digits, word}
 use Rattle.theory.specs.Hooks.{hooks, hookWords}
 use Rattle.theory.specs.Bounds.{factorial, S}
+use Rattle.words.specs.Calls.{goodShapeWord}
 use Rattle.pages.specs.Line.{hookLines}
 use Rattle.pages.specs.Sound.{soundLine, soundLines, sound}
 use Rattle.characters.specs.Opening.{opening}
@@ -11,14 +12,16 @@ use Rattle.characters.specs.Step.{nextLines, nextSlip, preview, commit}
 use Rattle.characters.specs.Examples.{Examples}
 
 pub examples : Examples
-unfolding character digits word hooks hookWords hookLines factorial S soundLine soundLines sound opening nextLines
-    nextSlip preview commit
+unfolding character digits word goodShapeWord hooks hookWords hookLines factorial S soundLine soundLines sound opening
+    nextLines nextSlip preview commit
 examples = record {
   E1 = refl;
   E2 = refl;
   E3 = refl;
   E4 = refl;
   E4-row = refl;
+  E4-empty = refl;
+  E4-dropped = refl;
   E5 = refl;
   E6 = refl;
   E6-parts = refl;

@@ -1,4 +1,5 @@
--- An accepted opening of a shape word on a class word is sound, and worth the character that it asks for.
+-- An accepted opening of a shape word on a class word is sound, and worth the character that it asks for; two words of
+-- one shape are opened alike (document 02, P6).
 --   Opens limit s c page         what it tells that no check refuses an opening
 --   First s c settled lines      what is true of what an opening settles and of the lines that it writes
 --   Opened limit s c page t q    what is true of the slip t and the page q of an accepted opening
@@ -13,9 +14,10 @@ use Rattle.theory.specs.Basics.{List, [], _∷_, length, ℕ, _+_, ℤ, pos, _+
 use Rattle.theory.specs.Basics.Laws.{Each}
 use Rattle.theory.specs.Basics.Integers.Products.{times-one}
 use Rattle.theory.specs.Limits.{pageLimit}
-use Rattle.theory.specs.Partition.{degree}
+use Rattle.theory.specs.Partition.{Parts, degree}
 use Rattle.theory.specs.Digits.{digits, width}
-use Rattle.theory.specs.ShapeWord.{shapeOf}
+use Rattle.theory.specs.ShapeWord.{shapeOf, goodWord}
+use Rattle.theory.specs.ShapeWord.InFront.{SameShape, dropped-shape, one-good-word}
 use Rattle.theory.specs.ShapeWord.Good.{shape-good}
 use Rattle.theory.specs.ShapeWord.Laws.{rows-partition}
 use Rattle.theory.specs.ClassWord.{classOf}
@@ -37,17 +39,17 @@ use Rattle.characters.specs.Opening.{handed, firstLines, firstSettled, o
 pub record Opens (limit s c : ℕ) (page : List ℕ) : Type 0 where
   pub words : firstOf (pairChecks limit s c) ≡ 0
   pub short : length page ≤ pageLimit
-  pub room : length (firstLines s c) ≤ length page
+  pub room : length (firstLines (goodWord s) c) ≤ length page
 
 pub opens : (limit s c : ℕ) (page : List ℕ) → firstOf (openingChecks limit s c page) ≡ 0 → Opens limit s c page
 opens limit s c page e =
-    let rest : List Check = no-6 page ∷ no-10 (firstLines s c) page ∷ [] in
+    let rest : List Check = no-6 page ∷ no-10 (firstLines (goodWord s) c) page ∷ [] in
     let (words, none) = both-pass (pairChecks limit s c) rest refl e in
     let (short, (room, _)) = none-applies rest refl none in
     record {
       words = words;
       short = ltb-false pageLimit (length page) short;
-      room = ltb-false (length page) (length (firstLines s c)) room;
+      room = ltb-false (length page) (length (firstLines (goodWord s) c)) room;
     }
 
 -- ---- the first lines
@@ -106,11 +108,14 @@ module _ (limit s c : ℕ) (m : Matched limit s c) where
 
 -- ---- the answer
 module _ (limit s c : ℕ) (page : List ℕ) where
+  abbrev good : ℕ
+  good = goodWord s
+
   abbrev lines : List Line
-  lines = firstLines s c
+  lines = firstLines good c
 
   abbrev slip : Slip
-  slip = slipOf s c (firstSettled s) (length lines) (pos 0)
+  slip = slipOf good c (firstSettled good) (length lines) (pos 0)
 
   -- the number beside a slip is the one that it was refused with
   pub opening-number : opening limit s c page .0 .refused ≡ firstOf (openingChecks limit s c page)
@@ -130,7 +135,7 @@ module _ (limit s c : ℕ) (page : List ℕ) where
     pub soundness : Sound limit slip left
     pub asks : worth slip (waiting slip left) ≡ shapeOf s on classOf c
     pub unstepped : slip .steps ≡ pos 0
-    pub its-shape : slip .shape ≡ s
+    pub its-shape : slip .shape ≡ goodWord s
     pub its-class : slip .class ≡ c
     pub laid : left ≡ padded (waiting slip left) page
     pub same-length : length left ≡ length page
@@ -141,22 +146,28 @@ module _ (limit s c : ℕ) (page : List ℕ) where
   opening-opened e =
       let z : firstOf (openingChecks limit s c page) ≡ 0 = sym opening-number ∙ e in
       let o = opens limit s c page z in
-      let f = first limit s c (matched limit s c (o .words)) in
+      let m = matched limit s c (o .words) in
+      let f = first limit good c m in
       rw z
       (record {
         soundness = sound-padded slip lines page refl (f .plain) limit (o .room)
             (record {
-              words = o .words;
+              words = m;
               each = f .each;
               value = f .value;
               forward = refl;
               span = omega (arith, f .span);
             });
-        asks = ap (λ ls. firstSettled s +ℤ sum signedCharacter ls) (waiting-padded slip lines page refl (f .plain))
-            ∙ f .asks;
+        asks = ap (λ ls. firstSettled good +ℤ sum signedCharacter ls) (waiting-padded slip lines page refl (f .plain))
+            ∙ f .asks ∙ ap (λ (rs : Parts). rs on classOf c) (dropped-shape s);
         unstepped = refl;
         its-shape = refl;
         its-class = refl;
         laid = ap (λ ls. padded ls page) (sym (waiting-padded slip lines page refl (f .plain)));
         same-length = length-padded lines page (o .room);
       })
+
+pub opening-alike : (limit : ℕ) {v w : ℕ} → SameShape v w → (c : ℕ) (page : List ℕ)
+    → opening limit v c page ≡ opening limit w c page
+unfolding opening
+opening-alike limit {v} {w} s c page = rw (s .first-clear, s .second-clear, s .shapes, one-good-word v w (s .shapes))

@@ -1,44 +1,30 @@
--- listing::shape_rank meets its contract: the word is refused with its degree, or the table has its rank.
-use mathlib.Core.Path.{_≡_, _∙_, ap}
+-- listing::shape_rank meets its contract: the word is refused as it is read, or the table has its good word's rank.
+use mathlib.Core.Path.{sym, _∙_, ap}
 use native.Mathlib.Omega.{arith}
 use mir.Facts.{toZ-pos}
 use mir.Syntax.{w64}
-use mir.Val.{toZ, ofZ}
 use borrow.Author.Needs.{needs}
-use Rattle.theory.specs.Basics.{ℕ, pos, natAbs}
+use Rattle.theory.specs.Basics.{pos}
 use Rattle.theory.specs.Partition.{degree}
-use Rattle.theory.specs.ShapeWord.{shapeOf}
 use Rattle.theory.specs.Limits.{degreeLimit}
-use Rattle.theory.specs.Refusals.Laws.{Within}
-use Rattle.listing.proofs.Ranks.{shape-rank-refused, shape-within, degree-read, shape-ranked}
+use Rattle.words.proofs.Readings.{ShapeRead, read-within, read-shape, shape-read}
+use Rattle.listing.proofs.Ranks.{shape-rank-refused, shape-ranked}
 use Rattle.listing.proofs.shape_rank.Statement.{statement}
 use Rattle.listing.proofs.shape_rank.Tie as tie
 
-degree-requires : tie.Need-degree-requires
-degree-requires c κs = search needs
+read-requires : tie.Need-read-requires
+read-requires c κs = search needs
 
 returns : tie.Need-returns
 returns c =
-    let d = c .before .before .degree in
-    shape-rank-refused degreeLimit (c .before .before .before .args .word) (d .result) (d .ensures) (c .if1 .taken)
+    let a = c .before .before in
+    shape-rank-refused degreeLimit (a .before .args .word) (a .read .result) (a .read .ensures) (c .if1 .taken)
 
--- a word whose degree was not refused
-abbrev word : tie.Else1 → ℕ
-word c = c .before .before .before .args .word
-
-inside : (c : tie.Else1) → Within degreeLimit (word c)
-inside c =
-    let d = c .before .before .degree in
-    shape-within degreeLimit (word c) (d .result) (d .ensures) (c .if1 .left)
-
-read : (c : tie.Else1) → let d = c .before .before .degree in
-    toZ w64 (ofZ w64 (d .result .number)) ≡ pos (degree (shapeOf (word c)))
-read c =
-    let d = c .before .before .degree in
-    degree-read degreeLimit (word c) (d .result) (d .ensures) (c .if1 .left) (omega arith)
-
-abbrev passed : tie.After-shape-words → tie.Else1
-passed c = c .before
+-- a word that was not refused
+passed : (c : tie.Else1) → let a = c .before .before in ShapeRead degreeLimit (a .before .args .word) (a .read .result)
+passed c =
+    let a = c .before .before in
+    shape-read degreeLimit (a .before .args .word) (a .read .result) (a .read .ensures) (c .if1 .left)
 
 shape-words-requires : tie.Need-shape-words-requires
 shape-words-requires c κs = search needs
@@ -46,35 +32,29 @@ shape-words-requires c κs = search needs
 slice-aggregate-search : tie.Need-slice-aggregate-search
 slice-aggregate-search c = search needs
 
-cast-search : tie.Need-cast-search
-cast-search c =
-    let left = passed (c .before .before .before) in
-    rw (read left) (tt, omega (arith, inside left .small))
-
 search-requires : tie.Need-search-requires
 search-requires c κs =
-    let words = c .before .before .before in
-    (words .shape-words .ensures, inside (passed words), ap natAbs (read (passed words)))
+    let s = passed (c .before .before) in
+    (c .before .shape-words .ensures, read-within s, s .degree ∙ sym (ap degree (read-shape s)))
 
-cast-t10 : tie.Need-cast-t10
-cast-t10 c = search needs
+cast-t9 : tie.Need-cast-t9
+cast-t9 c = search needs
 
 returns-2 : tie.Need-returns-2
 returns-2 c =
-    let left = passed (c .before .before .before .before) in
-    let d = left .before .before .degree in
-    shape-ranked degreeLimit (word left) (d .result) (d .ensures) (left .if1 .left) _
+    let else1 = c .before .before .before in
+    let a = else1 .before .before in
+    shape-ranked degreeLimit (a .before .args .word) (a .read .result) (a .read .ensures) (else1 .if1 .left) _
     (toZ-pos w64 (omega arith) ∙ ap pos (c .search .ensures))
 
 pub shape-rank-spec : {M : Type 1} → statement M
 shape-rank-spec =
     tie.close
     (tie.spec
-    degree-requires
+    read-requires
     returns
     shape-words-requires
     slice-aggregate-search
-    cast-search
     search-requires
-    cast-t10
+    cast-t9
     returns-2)

@@ -5,19 +5,17 @@ use mathlib.Core.Bool.{false≢true}
 use Prim.Native.Nat.{min, _≤_}
 use native.Mathlib.Omega.{arith}
 use lib.Signed.{nonNeg}
-use borrow.Author.Tests.{leb-true, le-leb, eqb-true, eq-eqb}
+use borrow.Author.Tests.{leb-true, le-leb}
 use Rattle.theory.specs.Basics.{Bool, true, false, cond, _&&_, List, [], _∷_, _++_, length, drop, ℕ, _-_, natAbs, _=?_}
 use Rattle.theory.specs.Basics.{_≤?_, every}
 use Rattle.theory.specs.Basics.Laws.{both, Each}
 use Rattle.theory.specs.Basics.Keep.{same-test}
 use Rattle.theory.specs.Bounds.{factorial, S}
-use Rattle.theory.specs.Refusals.{firstOf, pairChecks}
-use Rattle.theory.specs.Refusals.Laws.{matched}
 use Rattle.pages.specs.Line.{Line}
 use Rattle.pages.specs.Page.{waiting, Slip}
-use Rattle.pages.specs.Sound.{soundLine, lineValue, lineSpan, soundLines, sound}
+use Rattle.pages.specs.Sound.{soundLine, soundWords, lineValue, lineSpan, soundLines, sound}
 use Rattle.pages.specs.Sound.Laws.{SoundLine, sound-line, line-sound, asked, values, spans}
-use Rattle.pages.specs.Sound.Laws.{SoundLines, are-sound, sound-are}
+use Rattle.pages.specs.Sound.Laws.{SoundLines, words-matched, matched-words, are-sound, sound-are}
 use Rattle.pages.specs.Budget.{left, overspent, budgetOf, spentOn, spentAll, Budget}
 
 record Afforded (n value span : ℕ) (lines : List Line) : Type 0 where
@@ -102,12 +100,9 @@ module _ (limit : ℕ) where
 
 -- ---- it is the soundness of document 01
 module _ (limit : ℕ) (slip : Slip) (lines : List Line) where
-  abbrev first : ℕ
-  first = firstOf (pairChecks limit (slip .shape) (slip .class))
-
   abbrev opens : Bool
   opens =
-      first =? 0 && nonNeg (slip .steps) && natAbs (slip .settled) ≤? factorial (asked slip)
+      soundWords limit slip && nonNeg (slip .steps) && natAbs (slip .settled) ≤? factorial (asked slip)
       && natAbs (slip .steps) ≤? S (asked slip)
 
   abbrev value : ℕ
@@ -125,10 +120,9 @@ module _ (limit : ℕ) (slip : Slip) (lines : List Line) where
       go true o t =
           let c = both _ (natAbs (slip .steps) ≤? S (asked slip)) o in
           let b = both _ (natAbs (slip .settled) ≤? factorial (asked slip)) (c .0) in
-          let a = both (first =? 0) (nonNeg (slip .steps)) (b .0) in
-          let words = eqb-true first 0 (a .0) in
-          let small = matched limit (slip .shape) (slip .class) words .shape .small in
-          let r = afforded limit (asked slip) small value span lines t in
+          let a = both (soundWords limit slip) (nonNeg (slip .steps)) (b .0) in
+          let words = words-matched limit slip (a .0) in
+          let r = afforded limit (asked slip) (words .shape .small) value span lines t in
           record {
             words = words;
             each = r .each;
@@ -143,14 +137,13 @@ module _ (limit : ℕ) (slip : Slip) (lines : List Line) where
   suffices s =
       let settled : natAbs (slip .settled) ≤ factorial (asked slip) = omega (arith, s .value) in
       let steps : natAbs (slip .steps) ≤ S (asked slip) = omega (arith, s .span) in
-      let small = matched limit (slip .shape) (slip .class) (s .words) .shape .small in
       rw (
-        eq-eqb first 0 (s .words),
+        matched-words limit slip (s .words),
         s .forward,
         le-leb (natAbs (slip .settled)) (factorial (asked slip)) settled,
         le-leb (natAbs (slip .steps)) (S (asked slip)) steps,
       )
-      (is-afforded limit (asked slip) small value span lines
+      (is-afforded limit (asked slip) (s .words .shape .small) value span lines
       (record { each = s .each; enough = omega (arith, s .value); lasting = omega (arith, s .span) }))
 
   pub budget-sound : spentAll limit (budgetOf limit slip) lines .enough ≡ soundLines limit slip lines

@@ -11,7 +11,6 @@ use Rattle.theory.specs.ClassWord.Laws.{parts-no-zero}
 use Rattle.theory.specs.Character.{_on_}
 use Rattle.theory.specs.Hooks.Bounds.{word-bounded}
 use Rattle.theory.specs.Bounds.{factorial}
-use Rattle.theory.specs.Refusals.Laws.{matched}
 use Rattle.pages.specs.Page.{Slip}
 use Rattle.pages.specs.Line.{Line, lineDegree, signedCharacter}
 use Rattle.pages.specs.Line.Weights.{sum-within}
@@ -34,4 +33,4 @@ lines-bounded n lines e =
     sum-within signedCharacter lineValue lines (each-same (SoundLine n) _ lines (λ l. line-bounded) e)
 
 pub asked-within : (limit : ℕ) (slip : Slip) (lines : List Line) → SoundLines limit slip lines → asked slip ≤ limit
-asked-within limit slip lines s = matched limit (slip .shape) (slip .class) (s .words) .shape .small
+asked-within limit slip lines s = s .words .shape .small

@@ -14,13 +14,14 @@ use Rattle.theory.specs.Basics.Keep.{every-each, each-every}
 use Rattle.theory.specs.Limits.{pageLimit}
 use Rattle.theory.specs.Partition.{degree}
 use Rattle.theory.specs.ShapeWord.{goodShape, shapeOf}
+use Rattle.theory.specs.ShapeWord.Good.{shape-good}
 use Rattle.theory.specs.ClassWord.{goodClass, classOf}
 use Rattle.theory.specs.Bounds.{factorial, S}
 use Rattle.theory.specs.Refusals.{firstOf, pairChecks}
-use Rattle.theory.specs.Refusals.Laws.{none-applies}
+use Rattle.theory.specs.Refusals.Laws.{none-applies, Matched, good-matched, pair-passes}
 use Rattle.pages.specs.Line.{Line, lineDegree}
 use Rattle.pages.specs.Page.{waiting, Slip}
-use Rattle.pages.specs.Sound.{soundLine, lineValue, lineSpan, soundLines, sound, pageChecks}
+use Rattle.pages.specs.Sound.{soundLine, soundWords, lineValue, lineSpan, soundLines, sound, pageChecks}
 
 -- ---- a line
 pub record SoundLine (n : ℕ) (l : Line) : Type 0 where
@@ -75,11 +76,21 @@ abbrev pub spans : List Line → ℕ
 spans lines = total (map lineSpan lines)
 
 pub record SoundLines (limit : ℕ) (slip : Slip) (lines : List Line) : Type 0 where
-  pub words : firstOf (pairChecks limit (slip .shape) (slip .class)) ≡ 0
+  pub words : Matched limit (slip .shape) (slip .class)
   pub each : Each (SoundLine (asked slip)) lines
   pub value : natAbs (slip .settled) + values lines ≤ factorial (asked slip)
   pub forward : nonNeg (slip .steps) ≡ true
   pub span : natAbs (slip .steps) + spans lines ≤ S (asked slip)
+
+module _ (limit : ℕ) (slip : Slip) where
+  pub words-matched : soundWords limit slip ≡ true → Matched limit (slip .shape) (slip .class)
+  words-matched t =
+      let first : ℕ = firstOf (pairChecks limit (slip .shape) (slip .class)) in
+      let b = both (goodShape (slip .shape)) (first =? 0) t in
+      good-matched (b .0) (eqb-true first 0 (b .1))
+
+  pub matched-words : Matched limit (slip .shape) (slip .class) → soundWords limit slip ≡ true
+  matched-words m = rw (shape-good (m .shape .good), pair-passes m)
 
 module _ (limit : ℕ) (slip : Slip) (lines : List Line) where
   pub are-sound : soundLines limit slip lines ≡ true → SoundLines limit slip lines
@@ -89,9 +100,9 @@ module _ (limit : ℕ) (slip : Slip) (lines : List Line) where
       let e = both _ (natAbs (slip .steps) + spans lines ≤? S n) t in
       let d = both _ (nonNeg (slip .steps)) (e .0) in
       let c = both _ (natAbs (slip .settled) + values lines ≤? factorial n) (d .0) in
-      let b = both (firstOf (pairChecks limit (slip .shape) (slip .class)) =? 0) (every (soundLine n) lines) (c .0) in
+      let b = both (soundWords limit slip) (every (soundLine n) lines) (c .0) in
       record {
-        words = eqb-true (firstOf (pairChecks limit (slip .shape) (slip .class))) 0 (b .0);
+        words = words-matched limit slip (b .0);
         each = each-same _ (SoundLine n) lines (sound-line n) (every-each (soundLine n) lines (b .1));
         value = leb-true _ (factorial n) (c .1);
         forward = d .1;
@@ -103,7 +114,7 @@ module _ (limit : ℕ) (slip : Slip) (lines : List Line) where
   sound-are s =
       let n : ℕ = asked slip in
       rw (
-        eq-eqb (firstOf (pairChecks limit (slip .shape) (slip .class))) 0 (s .words),
+        matched-words limit slip (s .words),
         each-every (soundLine n) lines (each-same (SoundLine n) _ lines (λ l. line-sound) (s .each)),
         le-leb _ (factorial n) (s .value),
         s .forward,

@@ -10,6 +10,7 @@ use Rattle.theory.specs.Basics.{true, List, _∷_, _++_, length, take, ℕ, pos
 use Rattle.theory.specs.Limits.{degreeLimit}
 use Rattle.theory.specs.Partition.{degree}
 use Rattle.theory.specs.ShapeWord.{shapeOf}
+use Rattle.theory.specs.ShapeWord.InFront.{dropped-shape}
 use Rattle.theory.specs.ClassWord.{classOf}
 use Rattle.theory.specs.Character.{_on_}
 use Rattle.theory.specs.Bounds.{S}
@@ -94,7 +95,9 @@ module _ (shape class : ℕ) (p : List ℕ) (calls : List Call) (end : Standing)
         conserved = conserved;
         finished = λ none. sym (+ℤ-idr (end .slip .settled)) ∙ rw none at conserved;
         counted = counted;
-        bounded = omega (arith, rw (counted, l .same-shape ∙ o .its-shape) at (l .soundness .lines .span));
+        bounded =
+            let same = l .same-shape ∙ o .its-shape in
+            omega (arith, rw (counted, same, dropped-shape shape) at (l .soundness .lines .span));
         watch-free = session-unwatched degreeLimit s;
         still-sound = sound-is degreeLimit (end .slip) (end .page) (l .soundness);
         same-length = l .same-length ∙ o .same-length;

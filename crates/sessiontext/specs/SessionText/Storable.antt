@@ -16,7 +16,7 @@ use Rattle.theory.specs.ClassWord.Laws.{good-class}
 use Rattle.theory.specs.Bounds.{factorial, S}
 use Rattle.theory.specs.Bounds.Laws.{factorial-rises, S-rises}
 use Rattle.theory.specs.Limits.{degreeLimit}
-use Rattle.theory.specs.Refusals.Laws.{Within, WithinClass, matched}
+use Rattle.theory.specs.Refusals.Laws.{Within, WithinClass}
 use Rattle.pages.specs.Line.{Line}
 use Rattle.pages.specs.declared.Slip.{Slip}
 use Rattle.pages.specs.Page.{lineOf, waiting}
@@ -49,7 +49,7 @@ held-small (negsuc n) h = lt-ltb n (2 ^ 63) (omega arith)
 -- a sound session
 module _ {slip : Slip} {page : List ℕ} (s : Sound degreeLimit slip page) (short : length page < 2 ^ 64) where
   small : asked slip ≤ degreeLimit
-  small = matched degreeLimit (slip .shape) (slip .class) (s .lines .words) .shape .small
+  small = s .lines .words .shape .small
 
   line : (l : Line) → SoundLine (asked slip) l × Plain l → StorableLine degreeLimit l
   line l x = record {
@@ -64,12 +64,11 @@ module _ {slip : Slip} {page : List ℕ} (s : Sound degreeLimit slip page) (shor
   pub sound-storable : Storable degreeLimit slip (waiting slip page)
   unfolding factorial S
   sound-storable =
-      let m = matched degreeLimit (slip .shape) (slip .class) (s .lines .words) in
       let count = length-take-le (slip .lines) page (s .fit) in
       let same = length-map (take (slip .lines) page) lineOf in
       record {
-        shape = m .shape;
-        class = m .class;
+        shape = s .lines .words .shape;
+        class = s .lines .words .class;
         settled = held-small (slip .settled) (omega (arith, s .lines .value, factorial-rises (asked slip) 16 small));
         steps = record {
           forward = s .lines .forward;

@@ -10,7 +10,7 @@ use Rattle.theory.specs.Partition.{Parts}
 use Rattle.theory.specs.Partition.Laws.{NoZero}
 use Rattle.theory.specs.Digits.{Digits, ones, zeros}
 use Rattle.theory.specs.Digits.LastOne.{ones-zeros}
-use Rattle.theory.specs.ShapeWord.{rows}
+use Rattle.theory.specs.ShapeWord.{rows, shifted}
 use Rattle.theory.specs.ShapeWord.Laws.{rows-none}
 use Rattle.theory.specs.Character.{_on_}
 use Rattle.theory.specs.Character.Alternating.{raisedBy}
@@ -18,7 +18,6 @@ use Rattle.theory.specs.Character.Counted.{counted, counted-stable}
 use Rattle.theory.specs.Character.Betas.{betas, length-betas, zeros-behind}
 use Rattle.theory.specs.Character.Order.{character-counted}
 use Rattle.theory.specs.Rules.InOrder.{PositiveFirst}
-use Rattle.theory.specs.Hooks.{shifted}
 
 abbrev pub digitBetas : Digits → List ℤ
 digitBetas [] = []

@@ -12,10 +12,10 @@ use Rattle.theory.specs.Basics.Laws.{Each, each-same, total-same}
 use Rattle.theory.specs.Partition.{Parts, isPartition, degree}
 use Rattle.theory.specs.Partition.Laws.{NoZero, none, some}
 use Rattle.theory.specs.Digits.{Digits, digits, width}
-use Rattle.theory.specs.ShapeWord.{shapeDigits, rows, shapeOf}
+use Rattle.theory.specs.ShapeWord.{shapeDigits, rows, shapeOf, shifted}
 use Rattle.theory.specs.ShapeWord.Laws.{rows-shape}
 use Rattle.theory.specs.Character.{character, _on_}
-use Rattle.theory.specs.Hooks.{Hook, hooks, shifted, hookWords}
+use Rattle.theory.specs.Hooks.{Hook, hooks, hookWords}
 use Rattle.theory.specs.Hooks.Laws.{Exchange, exchanges, exchange-degree, hooks-by-degree}
 use Rattle.theory.specs.Hooks.Rule.{hook-rule}
 use Rattle.theory.specs.Hooks.Words.{Left, hooks-leave, hooks-few}

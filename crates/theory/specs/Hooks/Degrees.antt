@@ -12,11 +12,11 @@ use Rattle.theory.specs.Basics.Laws.{Each, each-append, each-map, each-s
 use Rattle.theory.specs.Partition.{degree}
 use Rattle.theory.specs.Partition.Laws.{NoZero, none, some, no-degree}
 use Rattle.theory.specs.Digits.{Digits, digits, width}
-use Rattle.theory.specs.ShapeWord.{rows, pairs, shapeOf}
+use Rattle.theory.specs.ShapeWord.{rows, pairs, shapeOf, shifted}
 use Rattle.theory.specs.ShapeWord.Laws.{rows-partition, degree-pairs}
 use Rattle.theory.specs.ClassWord.Identity.{ones-degree}
 use Rattle.theory.specs.Character.{character, _on_, characterDegree}
-use Rattle.theory.specs.Hooks.{Hook, hooks, shifted}
+use Rattle.theory.specs.Hooks.{Hook, hooks}
 use Rattle.theory.specs.Hooks.Walk.{led, hookOver, hooks-none, hooks-one, hooks-zero}
 use Rattle.theory.specs.Hooks.Laws.{Exchange, exchanges, exchange-degree}
 use Rattle.theory.specs.Hooks.Rule.{hook-rule}

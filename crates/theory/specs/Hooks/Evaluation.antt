@@ -10,10 +10,10 @@ use Rattle.theory.specs.Basics.Laws.{each-member, each-of, sum-same}
 use Rattle.theory.specs.Partition.{Parts, degree, times, without}
 use Rattle.theory.specs.Partition.Laws.{NoZero, none, some, no-zero-without, times-own, no-degree}
 use Rattle.theory.specs.Digits.{Digits}
-use Rattle.theory.specs.ShapeWord.{rows}
+use Rattle.theory.specs.ShapeWord.{rows, shifted}
 use Rattle.theory.specs.ShapeWord.Laws.{rows-partition}
 use Rattle.theory.specs.Character.{character, _on_}
-use Rattle.theory.specs.Hooks.{Hook, hooks, shifted}
+use Rattle.theory.specs.Hooks.{Hook, hooks}
 use Rattle.theory.specs.Hooks.Laws.{Exchange, exchanges, exchange-degree}
 use Rattle.theory.specs.Hooks.Rule.{hook-rule}
 

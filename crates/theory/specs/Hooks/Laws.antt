@@ -1,23 +1,22 @@
 -- Laws of hooks, on digits and for any length h: what a hook leaves, and how many hooks there are.
 --   Exchange h ds hook   what the hook leaves has as many digits and as many ones as ds, and h pairs fewer
-use mathlib.Core.Path.{_≡_, refl, sym, _∙_, ap}
-use Prim.Native.Nat.{_≤_, _<_}
+use mathlib.Core.Path.{_≡_, refl, ap}
+use Prim.Native.Nat.{_≤_}
 use native.Mathlib.Nat.{le-trans}
 use native.Mathlib.Decide.{ℕ-discrete, decLt}
 use native.Mathlib.Omega.{arith}
-use lib.Pow.{pow-pos}
 use lib.ListN.{length-append, length-map, length-take, take-append-drop, drop-of-length-le}
 use borrow.Author.Tests.{eq-eqb, ne-eqb}
 use Rattle.theory.specs.Basics.{Bool, true, false, List, [], _∷_, _++_, take, drop, length}
-use Rattle.theory.specs.Basics.{ℕ, zero, suc, _+_, _^_}
+use Rattle.theory.specs.Basics.{ℕ, zero, suc, _+_}
 use Rattle.theory.specs.Basics.Laws.{Each, each-append, each-map}
 use Rattle.theory.specs.Partition.{degree}
 use Rattle.theory.specs.Partition.Laws.{length-degree}
-use Rattle.theory.specs.Digits.{Digits, word, ones}
-use Rattle.theory.specs.Digits.Laws.{word-below}
-use Rattle.theory.specs.ShapeWord.{rows, pairs}
+use Rattle.theory.specs.Digits.{Digits, ones}
+use Rattle.theory.specs.ShapeWord.{rows, pairs, shifted}
 use Rattle.theory.specs.ShapeWord.Laws.{rows-none, rows-partition, degree-pairs}
-use Rattle.theory.specs.Hooks.{Hook, hooks, shifted}
+use Rattle.theory.specs.ShapeWord.InFront.{pairs-shifted}
+use Rattle.theory.specs.Hooks.{Hook, hooks}
 use Rattle.theory.specs.Hooks.Walk.{led, hookOver, hooks-none, hooks-one, hooks-zero, no-length}
 
 pub record Exchange (h : ℕ) (ds : Digits) (hook : Hook Digits) : Type 0 where
@@ -108,28 +107,7 @@ hooks-rows (suc k) (false ∷ ds) =
 pub hooks-by-degree : (h : ℕ) (ds : Digits) → length (hooks h ds) ≤ degree (rows ds)
 hooks-by-degree h ds = le-trans (hooks-rows h ds) (length-degree (rows ds) (rows-partition ds))
 
--- ---- leading ones shifted out
--- a zero is then in front, so the word is good
-pub word-shifted : (n : ℕ) (ds : Digits) → word (suc n) (shifted ds) < 2 ^ n
-unfolding word
-word-shifted n [] = pow-pos n
-word-shifted n (true ∷ ds) = word-shifted n ds
-word-shifted n (false ∷ ds) = word-below n ds
-
-pub length-shifted : (ds : Digits) → length (shifted ds) ≤ length ds
-length-shifted [] = omega arith
-length-shifted (true ∷ ds) = omega (arith, length-shifted ds)
-length-shifted (false ∷ ds) = omega arith
-
-pub rows-shifted : (ds : Digits) → rows (shifted ds) ≡ rows ds
-rows-shifted [] = refl
-rows-shifted (true ∷ ds) = cc (rows-shifted ds)
-rows-shifted (false ∷ ds) = refl
-
-pub pairs-shifted : (ds : Digits) → pairs (shifted ds) ≡ pairs ds
-pairs-shifted ds = degree-pairs (shifted ds) ∙ ap degree (rows-shifted ds) ∙ sym (degree-pairs ds)
-
--- the degree of what is left
+-- ---- the degree of what is left
 pub exchange-degree : (h : ℕ) (ds : Digits) (hook : Hook Digits) → Exchange h ds hook
     → degree (rows (shifted (hook .leaves))) + h ≡ degree (rows ds)
 exchange-degree h ds hook e =

@@ -5,15 +5,13 @@
 --   exchanged s h b    s with the zero at place b and the one h places below it exchanged
 --   minusAt s h b      whether the zeros strictly between are odd in number: of the h digits from below place b to the
 --                      one, those that are not ones
---   onesOut t          the word t with its leading ones shifted out
 --   markedHook h s b   the hook of length h that begins at place b of the word s
--- Of the library: bitAnd x y has the ones that both x and y have; Count.ones x is how many ones x has;
--- leadingZeros n x is how many zeros begin the n digits of x.
+-- Of the library: bitAnd x y has the ones that both x and y have; Count.ones x is how many ones x has.
 use lib.Bits.{bitAnd}
 use lib.Count
-use lib.Count.{leadingZeros}
 use Rattle.theory.specs.Basics.{Bool, cond, List, [], _∷_, ℕ, zero, suc, _+_, _-_, _*_, _/_, _%_, _^_, odd}
 use Rattle.theory.specs.Digits.{bit}
+use Rattle.theory.specs.ShapeWord.Shifting.{onesOut}
 use Rattle.theory.specs.Hooks.{Hook}
 pub mod Laws
 pub mod Walk
@@ -30,9 +28,6 @@ exchanged s h b = s + 2 ^ b - 2 ^ (b - h)
 
 unfoldable pub minusAt : ℕ → ℕ → ℕ → Bool
 minusAt s h b = odd (h + Count.ones (s / 2 ^ (b - h) % 2 ^ h))
-
-unfoldable pub onesOut : ℕ → ℕ
-onesOut t = t * 2 ^ leadingZeros 32 ((2 ^ 32 - 1) - t * 2 % 2 ^ 32) % 2 ^ 32 % 2 ^ 31
 
 abbrev pub markedHook : ℕ → ℕ → ℕ → Hook ℕ
 markedHook h s b = record { minus = minusAt s h b; leaves = onesOut (exchanged s h b) }

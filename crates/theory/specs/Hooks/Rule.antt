@@ -15,13 +15,13 @@ use Rattle.theory.specs.Basics.Laws.{odd-suc, sum-same, sum-append, sum-
 use Rattle.theory.specs.Partition.{Parts, times, without}
 use Rattle.theory.specs.Partition.Laws.{NoZero, split, no-zero-without, times-zero}
 use Rattle.theory.specs.Digits.{Digits, zeros}
-use Rattle.theory.specs.ShapeWord.{rows}
+use Rattle.theory.specs.ShapeWord.{rows, shifted}
 use Rattle.theory.specs.Character.{_on_}
 use Rattle.theory.specs.Character.Alternating.{here, Alternating, alternating-after, ZeroBelow, raisedBy}
 use Rattle.theory.specs.Character.Alternating.{twice-zero}
 use Rattle.theory.specs.Character.Lowered.{lowered, lowered-cons}
 use Rattle.theory.specs.Character.Counted.{counted, counted-alternating, counted-zero-below, counted-any}
-use Rattle.theory.specs.Hooks.{Hook, hooks, shifted}
+use Rattle.theory.specs.Hooks.{Hook, hooks}
 use Rattle.theory.specs.Hooks.Walk.{led, hookOver, hooks-none, hooks-one, hooks-zero}
 use Rattle.theory.specs.Hooks.Laws.{Exchange, exchanges}
 use Rattle.theory.specs.Hooks.Betas.{digitBetas, length-digitBetas, digitBetas-append, digitBetas-shifted}

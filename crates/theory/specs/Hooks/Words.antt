@@ -10,27 +10,19 @@ use Rattle.theory.specs.Basics.{true, _∷_, map, length, ℕ, _+_, sum,
 use Rattle.theory.specs.Basics.Laws.{Each, each-map, map-same, sum-map, sum-same}
 use Rattle.theory.specs.Partition.{Parts, degree, times, without}
 use Rattle.theory.specs.Partition.Laws.{NoZero}
-use Rattle.theory.specs.Digits.{Digits, digits, word, width}
-use Rattle.theory.specs.Digits.Laws.{digits-word, length-digits}
-use Rattle.theory.specs.Digits.LastOne.{last, length-last}
-use Rattle.theory.specs.ShapeWord.{rows, shapeOf, shapeWidth, goodShape}
+use Rattle.theory.specs.Digits.{Digits, digits, width}
+use Rattle.theory.specs.Digits.Laws.{length-digits}
+use Rattle.theory.specs.ShapeWord.{rows, shapeOf, shapeWidth, goodShape, shifted}
 use Rattle.theory.specs.ShapeWord.Good.{shape-good}
-use Rattle.theory.specs.ShapeWord.Laws.{rows-filled}
+use Rattle.theory.specs.ShapeWord.InFront.{word-shifted, rows-left}
 use Rattle.theory.specs.Character.{_on_}
-use Rattle.theory.specs.Hooks.{Hook, hooks, shifted, hookWord, hookWords}
-use Rattle.theory.specs.Hooks.Laws.{Exchange, exchanges, exchange-degree, hooks-by-degree, word-shifted}
-use Rattle.theory.specs.Hooks.Laws.{length-shifted}
+use Rattle.theory.specs.Hooks.{Hook, hooks, hookWord, hookWords}
+use Rattle.theory.specs.Hooks.Laws.{Exchange, exchanges, exchange-degree, hooks-by-degree}
 use Rattle.theory.specs.Hooks.Rule.{hook-rule}
 
 pub record Left (h w : ℕ) (hook : Hook ℕ) : Type 0 where
   pub good : goodShape (hook .leaves) ≡ true
   pub lower : degree (shapeOf (hook .leaves)) + h ≡ degree (shapeOf w)
-
--- the word of n digits without leading ones has their rows
-pub rows-left : (n : ℕ) (ds : Digits) → length ds ≤ n → rows (digits n (word n (shifted ds))) ≡ rows (shifted ds)
-rows-left n ds l =
-    ap rows (digits-word n (shifted ds))
-    ∙ rows-filled n (shifted ds) (omega (arith, length-last (last (shifted ds)), length-shifted ds))
 
 module _ (h w : ℕ) where
   abbrev Taken : Hook Digits → Type 0

@@ -15,8 +15,8 @@ use Rattle.theory.specs.ShapeWord.Good.{good-shape, shape-good}
 use Rattle.theory.specs.ShapeWord.Words.{TheWord, small-has-room, the-word, the-shape}
 use Rattle.theory.specs.ClassWord.{classWord, classOf}
 use Rattle.theory.specs.ClassWord.Laws.{GoodClass, one-to-one}
-use Rattle.theory.specs.Refusals.{Check, firstOf, shapeChecks, classChecks}
-use Rattle.theory.specs.Refusals.Laws.{within, shape-passes, within-class, class-passes}
+use Rattle.theory.specs.Refusals.{Check, firstOf, goodShapeChecks, classChecks}
+use Rattle.theory.specs.Refusals.Laws.{good-word-within, good-shape-passes, within-class, class-passes}
 use Rattle.theory.specs.OldForm.{newWord, oldWord}
 
 abbrev pub Passes : (ℕ → List Check) → ℕ → Type 0
@@ -33,12 +33,12 @@ module _ (limit : ℕ) (small : limit < width) where
       let p = within-class limit w e in
       the-word (classOf w) (small-has-room (classOf w) (p .good .partition) (omega (arith, p .small)))
 
-  pub from-old : OneWord (classChecks limit, newWord) (shapeChecks limit, oldWord) classOf shapeOf
+  pub from-old : OneWord (classChecks limit, newWord) (goodShapeChecks limit, oldWord) classOf shapeOf
   from-old = record {
     passes = λ w e.
         let v = new-word w e in
         let degrees = ap degree (v .its-shape) in
-        shape-passes (record {
+        good-shape-passes (record {
           good = good-shape (newWord w) (v .good);
           small = omega (arith, within-class limit w e .small);
         });
@@ -46,19 +46,19 @@ module _ (limit : ℕ) (small : limit < width) where
     back = λ w e. ap classWord (new-word w e .its-shape) ∙ one-to-one .to-class (within-class limit w e .good) .1;
   }
 
-  old-word : (w : ℕ) → Passes (shapeChecks limit) w → GoodClass (oldWord w) × (classOf (oldWord w) ≡ shapeOf w)
+  old-word : (w : ℕ) → Passes (goodShapeChecks limit) w → GoodClass (oldWord w) × (classOf (oldWord w) ≡ shapeOf w)
   old-word w e =
-      let p = within limit w e in
+      let p = good-word-within limit w e in
       let room = the-shape w (shape-good (p .good)) .has-room in
       one-to-one .to-word (record { partition = room .partition; room = omega (arith, p .small) })
 
-  pub to-old : OneWord (shapeChecks limit, oldWord) (classChecks limit, newWord) shapeOf classOf
+  pub to-old : OneWord (goodShapeChecks limit, oldWord) (classChecks limit, newWord) shapeOf classOf
   to-old = record {
     passes = λ w e.
         let (good, keeps) = old-word w e in
         let degrees = ap degree keeps in
-        class-passes (record { good = good; small = omega (arith, within limit w e .small) });
+        class-passes (record { good = good; small = omega (arith, good-word-within limit w e .small) });
     keeps = λ w e. old-word w e .1;
     back = λ w e.
-        ap shapeWord (old-word w e .1) ∙ the-shape w (shape-good (within limit w e .good)) .its-word;
+        ap shapeWord (old-word w e .1) ∙ the-shape w (shape-good (good-word-within limit w e .good)) .its-word;
   }

@@ -2,6 +2,7 @@
 --   Numbered checks      no check has the number 0
 --   Within limit w       a good shape word of a degree within the limit; WithinClass limit w, a good class word
 --   Matched limit s c    a good shape word and a good class word of one degree within the limit
+-- A shape word that no check refuses has such a good word.
 use mathlib.Core.Path.{_≡_, refl, sym, _∙_, ap}
 use Prim.Native.Nat.{_≤_, _<_}
 use native.Mathlib.Decide.{ℕ-discrete}
@@ -10,11 +11,13 @@ use borrow.Author.Tests.{ltb-false, not-false, eqb-true, eq-eqb, ltb-true, le-lt
 use Rattle.theory.specs.Basics.{Bool, true, false, cond, List, [], _∷_, _++_, ℕ, zero, suc, _=?_, _<?_, every}
 use Rattle.theory.specs.Basics.Laws.{Each, both}
 use Rattle.theory.specs.Partition.{degree}
-use Rattle.theory.specs.ShapeWord.{goodShape, shapeOf}
+use Rattle.theory.specs.ShapeWord.{goodShape, clearSign, goodWord, shapeOf}
 use Rattle.theory.specs.ShapeWord.Good.{GoodShape, good-shape, shape-good}
+use Rattle.theory.specs.ShapeWord.InFront.{SameShape, dropped-shape, dropped-good, good-clear, good-kept}
 use Rattle.theory.specs.ClassWord.{goodClass, classOf}
 use Rattle.theory.specs.ClassWord.Laws.{GoodClass, good-class, class-good}
-use Rattle.theory.specs.Refusals.{Check, firstOf, refusedOr, shapeChecks, classChecks, pairChecks}
+use Rattle.theory.specs.Refusals.{Check, firstOf, refusedOr, shapeChecks, goodShapeChecks, classChecks}
+use Rattle.theory.specs.Refusals.{pairChecks}
 
 -- ---- refused or given
 module _ {A : Type 0} (f : ℕ → A) (x : A) where
@@ -30,6 +33,12 @@ module _ {A : Type 0} (f : ℕ → A) (x : A) where
       → (k ≡ 0) × (number x ≡ 0)
   neither number its-number zero e = (refl, e)
   neither number its-number (suc k) e = absurd (omega (arith, its-number (suc k), e))
+
+-- what is made of an answer is refused where it is
+pub made-of : {A B : Type 0} (make : A → B) (f : ℕ → A) (x : A) (k : ℕ)
+    → make (refusedOr k f x) ≡ refusedOr k (λ k. make (f k)) (make x)
+made-of make f x zero = refl
+made-of make f x (suc k) = refl
 
 -- any answer that holds the number that it is refused with: its number, what it is if that is 0, and that a refused
 -- answer is refused alike, whatever was to be given
@@ -118,9 +127,23 @@ pub record Within (limit w : ℕ) : Type 0 where
   pub good : GoodShape w
   pub small : degree (shapeOf w) ≤ limit
 
-pub within : (limit w : ℕ) → firstOf (shapeChecks limit w) ≡ 0 → Within limit w
+-- what is within the limit is the good word of the shape
+good-within : (limit w : ℕ) → degree (shapeOf w) ≤ limit → Within limit (goodWord w)
+good-within limit w small =
+    record { good = good-shape (goodWord w) (dropped-good w); small = rw (dropped-shape w) small }
+
+pub within : (limit w : ℕ) → firstOf (shapeChecks limit w) ≡ 0 → Within limit (goodWord w)
 within limit w e =
-    let a = none-applies (shapeChecks limit w) refl e in
+    good-within limit w (ltb-false limit (degree (shapeOf w)) (none-applies (shapeChecks limit w) refl e .1 .0))
+
+-- and the word itself has a clear sign digit
+pub shape-clear : (limit w : ℕ) → firstOf (shapeChecks limit w) ≡ 0 → clearSign w ≡ true
+shape-clear limit w e = not-false (clearSign w) (none-applies (shapeChecks limit w) refl e .0)
+
+-- a word of a list is the good one
+pub good-word-within : (limit w : ℕ) → firstOf (goodShapeChecks limit w) ≡ 0 → Within limit w
+good-word-within limit w e =
+    let a = none-applies (goodShapeChecks limit w) refl e in
     record {
       good = good-shape w (not-false (goodShape w) (a .0));
       small = ltb-false limit (degree (shapeOf w)) (a .1 .0);
@@ -140,32 +163,49 @@ within-class limit w e =
 
 -- and words that are so pass
 pub shape-passes : {limit w : ℕ} → Within limit w → firstOf (shapeChecks limit w) ≡ 0
-shape-passes {limit} {w} p = rw (shape-good (p .good), le-ltb limit (degree (shapeOf w)) (p .small))
+shape-passes {limit} {w} p = rw (good-clear w (shape-good (p .good)), le-ltb limit (degree (shapeOf w)) (p .small))
+
+pub good-shape-passes : {limit w : ℕ} → Within limit w → firstOf (goodShapeChecks limit w) ≡ 0
+good-shape-passes {limit} {w} p = rw (shape-good (p .good), le-ltb limit (degree (shapeOf w)) (p .small))
 
 pub class-passes : {limit w : ℕ} → WithinClass limit w → firstOf (classChecks limit w) ≡ 0
 class-passes {limit} {w} p = rw (class-good (p .good), le-ltb limit (degree (classOf w)) (p .small))
+
+-- a good word is refused as before P6, and in a list as by a single call
+pub good-checked : (limit w : ℕ) → goodShape w ≡ true
+    → firstOf (shapeChecks limit w) ≡ firstOf (goodShapeChecks limit w)
+good-checked limit w g = rw (g, good-clear w g)
 
 pub record Matched (limit s c : ℕ) : Type 0 where
   pub shape : Within limit s
   pub class : WithinClass limit c
   pub degrees : degree (shapeOf s) ≡ degree (classOf c)
 
-pub matched : (limit s c : ℕ) → firstOf (pairChecks limit s c) ≡ 0 → Matched limit s c
+pub matched : (limit s c : ℕ) → firstOf (pairChecks limit s c) ≡ 0 → Matched limit (goodWord s) c
 matched limit s c e =
-    let (s-good, (c-good, (s-small, (c-small, (same, _))))) = none-applies (pairChecks limit s c) refl e in
+    let (_, (c-good, (s-small, (c-small, (same, _))))) = none-applies (pairChecks limit s c) refl e in
     let m : ℕ = degree (shapeOf s) in
     let n : ℕ = degree (classOf c) in
     record {
-      shape = record { good = good-shape s (not-false (goodShape s) s-good); small = ltb-false limit m s-small };
+      shape = good-within limit s (ltb-false limit m s-small);
       class = record { good = good-class c (not-false (goodClass c) c-good); small = ltb-false limit n c-small };
-      degrees = eqb-true m n (not-false (m =? n) same);
+      degrees = ap degree (dropped-shape s) ∙ eqb-true m n (not-false (m =? n) same);
     }
 
 pub pair-passes : {limit s c : ℕ} → Matched limit s c → firstOf (pairChecks limit s c) ≡ 0
 pair-passes {limit} {s} {c} m = rw (
-  shape-good (m .shape .good),
+  good-clear s (shape-good (m .shape .good)),
   class-good (m .class .good),
   le-ltb limit (degree (shapeOf s)) (m .shape .small),
   le-ltb limit (degree (classOf c)) (m .class .small),
   eq-eqb (degree (shapeOf s)) (degree (classOf c)) (m .degrees),
 )
+
+-- a good word that passes with a class word is itself the one
+pub good-matched : {limit s c : ℕ} → goodShape s ≡ true → firstOf (pairChecks limit s c) ≡ 0 → Matched limit s c
+good-matched {limit} {s} {c} g e = rw (good-kept s g) at (matched limit s c e)
+
+-- ---- words of one shape are refused alike
+module _ {v w : ℕ} (s : SameShape v w) (limit : ℕ) where
+  pub shape-alike : firstOf (shapeChecks limit v) ≡ firstOf (shapeChecks limit w)
+  shape-alike = rw (s .first-clear, s .second-clear, s .shapes)

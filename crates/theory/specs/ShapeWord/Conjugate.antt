@@ -24,6 +24,7 @@ use Rattle.theory.specs.ShapeWord.{rows, pairs, conjugate, shapeOf, conj
 use Rattle.theory.specs.ShapeWord.Good.{good-shape, shape-good}
 use Rattle.theory.specs.ShapeWord.Laws.{rows-none, rows-zero, rows-last, rows-filled, first-rows, rows-partition}
 use Rattle.theory.specs.ShapeWord.Laws.{degree-pairs}
+use Rattle.theory.specs.ShapeWord.InFront.{good-kept, one-good-word}
 
 -- ---- flipped digits
 abbrev flipped : Digits → Digits
@@ -190,6 +191,14 @@ degree-conjugate-word w =
 
 pub conjugate-good : (w : ℕ) → goodShape (conjugateWord w) ≡ true
 conjugate-good w = shape-good (record { below = word-conjugate shapeWidth (digits width w) })
+
+-- words of one shape have one conjugate
+pub one-conjugate : (v w : ℕ) → shapeOf v ≡ shapeOf w → conjugateWord v ≡ conjugateWord w
+one-conjugate v w e =
+    sym (good-kept (conjugateWord v) (conjugate-good v))
+    ∙ one-good-word (conjugateWord v) (conjugateWord w)
+    (shape-conjugate v ∙ ap transposed e ∙ sym (shape-conjugate w))
+    ∙ good-kept (conjugateWord w) (conjugate-good w)
 
 pub conjugate-word-twice : (w : ℕ) → goodShape w ≡ true → conjugateWord (conjugateWord w) ≡ w
 conjugate-word-twice w g = conjugated-twice shapeWidth w (good-shape w g .below)

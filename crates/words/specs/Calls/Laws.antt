@@ -1,21 +1,30 @@
 -- What follows from the promises of the calls on one partition and on lists of them. To every word there is one answer
 -- that `PeriodOfClass` promises, and no second; it refuses as the checks do (document 02, P2; document 01, "What the
 -- contracts have to say"). Lists of shapes move between two forms: each move keeps the partition, entry by entry, and
--- there and back is the list again (document 02, P5), for any limit below the 31 digits of a word.
-use mathlib.Core.Path.{_≡_, refl}
+-- there and back is the list again (document 02, P5), for any limit below the 31 digits of a word. Two words of one
+-- shape get one answer, apart from the count of ones dropped; that is 0 for a good word and for no other (document 02,
+-- P6).
+--   apartFromCount a   the answer a without its count; readApart r, the reading r
+use mathlib.Core.Path.{_≡_, refl, sym, _∙_, ap}
 use Prim.Native.Nat.{_<_}
-use Rattle.theory.specs.Basics.{List, map, length, ℕ, pos}
+use Rattle.theory.specs.Basics.{true, List, map, length, ℕ, pos}
 use Rattle.theory.specs.Digits.{width}
-use Rattle.theory.specs.ShapeWord.{shapeOf}
+use Rattle.theory.specs.Partition.{Parts, degree}
+use Rattle.theory.specs.ShapeWord.{shapeOf, goodShape, goodWord, dropped}
+use Rattle.theory.specs.ShapeWord.InFront.{SameShape, one-good-word, good-kept, kept-good, none-dropped}
+use Rattle.theory.specs.ShapeWord.InFront.{undropped-good}
+use Rattle.theory.specs.ShapeWord.Conjugate.{one-conjugate}
 use Rattle.theory.specs.ClassWord.{classOf}
 use Rattle.theory.specs.ClassData.Periods.{periodFrom, period-computed, one-period}
 use Rattle.theory.specs.OldForm.Laws.{from-old, to-old}
-use Rattle.theory.specs.Refusals.{firstOf, classChecks}
-use Rattle.theory.specs.Refusals.Laws.{within-class}
-use Rattle.words.specs.Answers.{Outcome, numbered, NumberAnswer}
+use Rattle.theory.specs.Refusals.{firstOf, refusedOr, shapeChecks, goodShapeChecks, classChecks}
+use Rattle.theory.specs.Refusals.Laws.{made-of, answer-given, shape-clear, good-checked, within-class, shape-alike}
+use Rattle.words.specs.Answers.{Outcome, wordAnswer, goodAnswer, worded, numbered, NumberAnswer, WordAnswer}
+use Rattle.words.specs.Answers.{reading, GoodAnswer, ShapeReading}
 use Rattle.words.specs.Answers.Laws.{number-refusal, one-number}
 use Rattle.words.specs.Lists.{ListAnswer, listAnswer}
 use Rattle.words.specs.Lists.Laws.{list-kept, list-back}
+use Rattle.words.specs.Calls.{shapeReading, goodShapeWord, shapePartsInto, shapeDegree, conjugateShape}
 use Rattle.words.specs.Calls.{PeriodOfClass, shapesFromOld, shapesToOld}
 
 module _ (limit w : ℕ) where
@@ -59,3 +68,69 @@ module _ (limit : ℕ) (small : limit < width) where
         → (again : List ℕ) → length after ≡ length again → shapesFromOld limit after again ≡ (listAnswer 0 0, given)
     unfolding shapesFromOld shapesToOld
     to-old-and-back o none = list-back (to-old limit small) given lent o none
+
+-- ---- words of one shape
+abbrev pub apartFromCount : GoodAnswer → WordAnswer
+apartFromCount a = wordAnswer (a .refused) (a .word)
+
+abbrev pub readApart : ShapeReading → ShapeReading
+readApart r = reading (r .refused) (r .word) 0 (r .degree)
+
+module _ (limit : ℕ) {v w : ℕ} (s : SameShape v w) where
+  pub reading-alike : readApart (shapeReading limit v) ≡ readApart (shapeReading limit w)
+  unfolding shapeReading
+  reading-alike = apart v ∙ rw (shape-alike s limit, one-good-word v w (s .shapes), s .shapes) (sym (apart w))
+    where
+      apart : (u : ℕ) → readApart (shapeReading limit u)
+          ≡ refusedOr (firstOf (shapeChecks limit u)) (λ k. reading k 0 0 0)
+          (reading 0 (goodWord u) 0 (degree (shapeOf u)))
+      apart u = made-of readApart _ _ (firstOf (shapeChecks limit u))
+
+  pub good-alike : apartFromCount (goodShapeWord limit v) ≡ apartFromCount (goodShapeWord limit w)
+  unfolding goodShapeWord
+  good-alike = apart v ∙ rw (shape-alike s limit, one-good-word v w (s .shapes)) (sym (apart w))
+    where
+      apart : (u : ℕ) → apartFromCount (goodShapeWord limit u) ≡ worded (shapeChecks limit u) (goodWord u)
+      apart u =
+          made-of apartFromCount (λ k. goodAnswer k 0 0) (goodAnswer 0 (goodWord u) (dropped u))
+          (firstOf (shapeChecks limit u))
+
+  pub parts-alike : (column : Parts) → shapePartsInto limit v column ≡ shapePartsInto limit w column
+  unfolding shapePartsInto
+  parts-alike column = rw (s .first-clear, s .second-clear, s .shapes)
+
+  pub degree-alike : shapeDegree limit v ≡ shapeDegree limit w
+  unfolding shapeDegree
+  degree-alike = rw (s .first-clear, s .second-clear, s .shapes)
+
+  pub conjugate-alike : conjugateShape limit v ≡ conjugateShape limit w
+  unfolding conjugateShape
+  conjugate-alike = rw (s .first-clear, s .second-clear, s .shapes, one-conjugate v w (s .shapes))
+
+-- from a good word nothing is dropped: it is read and answered as before P6, by the old checks; and from every other
+-- word that is not refused something is dropped, so that another word is left
+module _ (limit w : ℕ) where
+  module _ (good : goodShape w ≡ true) where
+    pub good-read : shapeReading limit w
+        ≡ refusedOr (firstOf (goodShapeChecks limit w)) (λ k. reading k 0 0 0) (reading 0 w 0 (degree (shapeOf w)))
+    unfolding shapeReading
+    good-read = rw (good-checked limit w good, good-kept w good, none-dropped w good)
+
+    pub good-idle : goodShapeWord limit w
+        ≡ refusedOr (firstOf (goodShapeChecks limit w)) (λ k. goodAnswer k 0 0) (goodAnswer 0 w 0)
+    unfolding goodShapeWord
+    good-idle = rw (good-checked limit w good, good-kept w good, none-dropped w good)
+
+  module _ (accepted : goodShapeWord limit w .refused ≡ 0) where
+    given : (firstOf (shapeChecks limit w) ≡ 0) × (goodShapeWord limit w ≡ goodAnswer 0 (goodWord w) (dropped w))
+    unfolding goodShapeWord
+    given =
+        answer-given (λ (x : GoodAnswer). x .refused) (λ k. goodAnswer k 0 0) (goodAnswer 0 (goodWord w) (dropped w))
+        (λ k. refl) refl (firstOf (shapeChecks limit w)) (goodShapeWord limit w) refl accepted
+
+    pub idle-good : goodShapeWord limit w .dropped ≡ 0 → goodShape w ≡ true
+    idle-good none =
+        undropped-good w (shape-clear limit w (given .0)) (sym (ap (λ (x : GoodAnswer). x .dropped) (given .1)) ∙ none)
+
+    pub same-good-word : goodShapeWord limit w .word ≡ w → goodShape w ≡ true
+    same-good-word same = kept-good w (sym (ap (λ (x : GoodAnswer). x .word) (given .1)) ∙ same)

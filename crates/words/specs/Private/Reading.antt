@@ -1,4 +1,4 @@
--- What the private readers of a shape word, of a class word and of a part list find.
+-- What is found of the parts of a word, and of a part list.
 --   measure k d n               a measure by its fields: the number that refuses, the degree, the number of parts
 --   measured checks ps          the measure of the parts ps, unless a check refuses
 --   countWithin m room          the count of the parts measured, where so many have room

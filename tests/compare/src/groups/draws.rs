@@ -48,6 +48,21 @@ fn changed(random: &mut Random) -> u32 {
     word
 }
 
+/// How many ones there is room for in front of a shape word: its other digits then lose zeros at the end, and no one.
+pub fn room_in_front(word: u32) -> u32 {
+    word.trailing_zeros().min(31)
+}
+
+/// A shape word with so many ones put in front of its digits.
+pub fn with_ones(word: u32, ones: u32) -> u32 {
+    (1 << 31) - (1 << (31 - ones)) + (word >> ones)
+}
+
+/// A shape word with ones in front, from one to as many as there is room for.
+pub fn random_ones(random: &mut Random, word: u32) -> u32 {
+    with_ones(word, 1 + random.below(room_in_front(word) as usize) as u32)
+}
+
 /// Words at the borders: near powers of two and sums and differences of two of them, and the words of all partitions of
 /// degree up to 18, each also with one digit changed and one more or less.
 pub fn border_words() -> BTreeSet<u32> {

@@ -7,11 +7,12 @@ use crate::calls;
 use crate::model::characters::Characters;
 use crate::model::sessions::Slip;
 use crate::model::words::{pack_class, pack_shape, read_class};
+use crate::model::Parts;
 use crate::random::Random;
 use crate::report::Group;
 
 /// The cycles that a class may have.
-const CYCLES: usize = 6;
+pub const CYCLES: usize = 6;
 
 /// The words of a page, and more steps than a session takes: in these orders at most 97 lines wait at a time.
 const WORDS: usize = 128;
@@ -22,16 +23,27 @@ pub fn run(characters: &Characters, group: &mut Group) {
     let mut steps = 0;
     for listing in &characters.listings {
         let classes = || listing.iter().filter(|parts| parts.len() <= CYCLES);
-        for (rows, parts) in listing.iter().flat_map(|rows| classes().map(move |parts| (rows, parts))) {
-            let (slip, page, struck) = struck_out(&mut random, pack_shape(rows), pack_class(parts));
-            let shown = |kind| calls::watch_whole(slip, &page, kind, 0).answer;
-            let end = (slip.lines, shown(3), shown(5));
-            let model = (0, characters.character(rows, parts), struck);
-            group.same(end, model, || format!("lines, settled and steps at the end of {rows:?} on {parts:?}"));
-            steps += struck;
+        for pair in listing.iter().flat_map(|rows| classes().map(move |parts| (rows, parts))) {
+            steps += compare_end(characters, &mut random, group, pack_shape(pair.0), pair);
         }
     }
     group.note(format!("{steps} steps"));
+}
+
+/// Compares the end of a session that is opened with this word of the rows; how many steps it took.
+pub fn compare_end(
+    characters: &Characters,
+    random: &mut Random,
+    group: &mut Group,
+    word: u32,
+    (rows, parts): (&Parts, &Parts),
+) -> i64 {
+    let (slip, page, struck) = struck_out(random, word, pack_class(parts));
+    let shown = |kind| calls::watch_whole(slip, &page, kind, 0).answer;
+    let end = (slip.lines, shown(3), shown(5));
+    let model = (0, characters.character(rows, parts), struck);
+    group.same(end, model, || format!("lines, settled and steps at the end of {word:#010x}, {rows:?}, on {parts:?}"));
+    struck
 }
 
 /// Opens a pair and strikes any line by any of its cycles until none waits or a call is refused. What the library

@@ -26,7 +26,7 @@ pub fn run(_: &Characters, group: &mut Group) {
     }
 }
 
-/// E1 to E10.
+/// E1 to E10, E4 as P6 has it: ones in front are dropped.
 fn words(group: &mut Group) {
     let mut word = |answer: (u64, u32), expected: (u64, u32), name: &str| {
         group.same(answer, expected, || name.to_string());
@@ -39,7 +39,7 @@ fn words(group: &mut Group) {
         group.same(answer, expected, || name.to_string());
     };
     number(calls::degree(0x3FFF_E000), (0, 2), "E4");
-    number(calls::degree(0x4000_0000), (0, 1), "E4");
+    number(calls::degree(0x4000_0000), (0, 0), "E4");
     number(calls::class_size(0x5000_0000), (0, 3), "E6");
     number(calls::class_size(0x0000_4000), (0, 4), "E6");
     number(calls::character(SHAPE_3_2, CLASS_3_2), (1, 0), "E7");
@@ -47,6 +47,7 @@ fn words(group: &mut Group) {
     number(calls::character(SHAPE_3_2, 0x0400_0000), (0, 0), "E9");
     number(calls::character(SHAPE_3_2, 0x7C00_0000), (5, 0), "E10");
     number(calls::character(SHAPE_2_1, 0x1000_0000), (-1, 0), "(2,1) on (3)");
+    group.same(calls::good_shape(0x4000_0000), ((0, 1), 0), || "E4, one dropped".to_string());
 }
 
 /// E11, E12 and E13: from an opening on a page of two words, the strikes, each a preview and its commit, and what they

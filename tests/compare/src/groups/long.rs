@@ -1,7 +1,8 @@
 //! Long pages: many lines of the degrees 1 to 12, and the same with one line changed, also into one that has a word of
-//! another line, or a word a little off. A watch, a preview and a commit have to judge alike whether they are sound.
+//! another line, a word a little off, or ones in front of its shape. A watch, a preview and a commit have to judge
+//! alike whether they are sound.
 
-use super::made::{damaged_line, random_line};
+use super::made::{damaged_line, ones_in_front, random_line};
 use super::sessions::State;
 use super::strips::{compare_commit, compare_preview, Named, STRIP};
 use super::Tally;
@@ -52,12 +53,13 @@ fn changed(characters: &Characters, random: &mut Random, lines: &[u64], at: usiz
     let (line, other) = (lines[at], *random.pick(lines));
     let low = |word: u64| word % (1 << 32);
     let high = |word: u64| word >> 32 << 32;
-    match random.below(6) {
+    match random.below(7) {
         0 => line ^ 1 << random.below(64),
         1 => high(line) + low(other),
         2 => low(other) << 32 | low(line),
         3 => high(line) | other >> 32 & u64::from(u32::MAX >> 1),
         4 => line.wrapping_add((1 + random.next() % (1 << 20)) << *random.pick(&[0, 8, 32, 40])),
+        5 => ones_in_front(random, line),
         _ => damaged_line(characters, random),
     }
 }

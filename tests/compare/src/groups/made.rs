@@ -1,6 +1,6 @@
 //! States that no opening and commit made: sound ones, damaged ones, and numbers that name no line and no cycle.
 
-use super::draws::random_word;
+use super::draws::{random_ones, random_word};
 use crate::model::characters::Characters;
 use crate::model::partitions::{degree, factorial};
 use crate::model::sessions::{most_steps, sound, written, Line, Slip, PAGE_LIMIT};
@@ -79,7 +79,10 @@ pub fn damaged(characters: &Characters, random: &mut Random, state: &(Slip, Vec<
         0 => slip.lines = *random.pick(&[slip.lines + 1, slip.lines.wrapping_sub(1), page.len() as u64, u64::MAX]),
         1 => slip.steps = damaged_steps(random, state),
         2 => slip.settled = damaged_settled(random, state),
-        3 => slip.shape = *random.pick(&[any, slip.class, slip.shape ^ (1 << 30), slip.shape ^ (1 << 31)]),
+        3 => {
+            let ones = random_ones(random, slip.shape);
+            slip.shape = *random.pick(&[any, slip.class, slip.shape ^ (1 << 30), slip.shape ^ (1 << 31), ones]);
+        }
         4 => slip.class = *random.pick(&[any, slip.shape, slip.class ^ (1 << 31)]),
         5 => page.resize(*random.pick(&[PAGE_LIMIT, PAGE_LIMIT + 1, slip.lines.saturating_sub(1) as usize]), 0),
         _ if page.is_empty() => slip.lines = 1,
@@ -111,17 +114,24 @@ fn damaged_settled(random: &mut Random, state: &(Slip, Vec<u64>)) -> i64 {
     *random.pick(&[most, most + 1, -most, -most - 1, i64::MIN, i64::MAX])
 }
 
-/// A line of any degree, of two degrees, of degree 0, or of any two words.
+/// A line of any degree, of two degrees, of degree 0, with ones in front of its shape, or of any two words.
 pub fn damaged_line(characters: &Characters, random: &mut Random) -> u64 {
     let degrees = [random.below(17), random.below(17)];
     let line = random_line(characters, random, degrees[0]);
     let other = random_line(characters, random, degrees[1]);
-    match random.below(4) {
+    match random.below(5) {
         0 => line.word(),
         1 => Line { class: other.class, ..line }.word(),
         2 => *random.pick(&[0, 1 << 63]),
+        3 => ones_in_front(random, line.word()),
         _ => (u64::from(random_word(random)) << 32) + u64::from(random_word(random)),
     }
+}
+
+/// A line's word with ones in front of its shape, and its sign.
+pub fn ones_in_front(random: &mut Random, word: u64) -> u64 {
+    let (sign, shape, class) = (word >> 63 << 63, (word >> 32) as u32 % (1 << 31), word % (1 << 32));
+    sign + (u64::from(random_ones(random, shape)) << 32) + class
 }
 
 /// A number of a line that there is not, also one that 32 bits would take for a good one.

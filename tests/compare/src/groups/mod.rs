@@ -6,6 +6,8 @@ pub mod ends;
 pub mod examples;
 pub mod formulas;
 pub mod handmade;
+pub mod in_front;
+pub mod kept;
 pub mod lists;
 pub mod long;
 mod made;

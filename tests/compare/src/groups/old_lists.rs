@@ -6,7 +6,7 @@ use super::Kinds;
 use crate::calls::{self, Moved};
 use crate::lent::leaves;
 use crate::model::characters::Characters;
-use crate::model::words::{moved, pack_class, pack_shape, read_class, read_shape};
+use crate::model::words::{moved, pack_class, pack_shape, read_class, read_good_shape};
 use crate::model::{Answer, Parts, LIST_LIMIT};
 use crate::random::Random;
 use crate::report::Group;
@@ -16,8 +16,10 @@ const LISTS: usize = 40_000;
 /// A move: its name, the library's call, how the words given are read, and how the parts are packed.
 type Move = (&'static str, fn(&[u32], &[u32]) -> Moved, fn(u32) -> Answer<Parts>, fn(&[u8]) -> u32);
 
-const MOVES: [Move; 2] =
-    [("from", calls::shapes_from_old, read_class, pack_shape), ("to", calls::shapes_to_old, read_shape, pack_class)];
+const MOVES: [Move; 2] = [
+    ("from", calls::shapes_from_old, read_class, pack_shape),
+    ("to", calls::shapes_to_old, read_good_shape, pack_class),
+];
 
 /// Compares a move of a list into a run with these words, and gives the list moved, if it was.
 fn compare(which: Move, given: &[u32], lent: &[u32], group: &mut Group, kinds: &mut Kinds) -> Option<Vec<u32>> {

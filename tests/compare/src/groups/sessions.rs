@@ -4,7 +4,7 @@
 //! settled (3) and as waiting (4), added up, with the character that the session began with. At the end the commits of
 //! a run are made once more, its watches and previews struck.
 
-use super::draws::{listed, random_parts, random_word};
+use super::draws::{listed, random_ones, random_parts, random_word};
 use super::made::{damaged, made_up, wrong_cycle, wrong_line};
 use super::storing::Store;
 use super::striking::Strikes;
@@ -27,6 +27,18 @@ pub const LENGTHS: [usize; 16] = [0, 1, 1, 2, 2, 3, 4, 5, 6, 8, 12, 20, 60, 300,
 
 /// A slip and its page.
 pub type State = (Slip, Vec<u64>);
+
+/// Compares an opening on this page: the model's refusal number, and the slip and page that the library leaves.
+pub fn compare_open(group: &mut Group, shape: u32, class: u32, page: &[u64]) -> (u32, State) {
+    let (refused, (slip, after)) = match sessions::open(shape, class, page.len()) {
+        Ok(opened) => (0, opened),
+        Err(refused) => (refused, (Slip::default(), page.to_vec())),
+    };
+    let answer = calls::open(shape, class, page);
+    let left = (answer.answer.1, answer.run.clone());
+    group.same(answer, leaves((refused, slip), &after), || format!("open {shape:x} on {class:x}"));
+    (refused, left)
+}
 
 /// Everything that a random session needs at hand.
 pub struct Desk<'a> {
@@ -114,8 +126,8 @@ impl Desk<'_> {
         slip.settled + lines.iter().map(|line| line.character(self.characters)).sum::<i64>()
     }
 
-    /// An opening, in three cases of eight on words that need not be good; where it is not refused, the state and the
-    /// model's character of the two words.
+    /// An opening, in three cases of eight on words that need not be good, in two on a shape word with ones in front;
+    /// where it is not refused, the state and the model's character of the two words.
     fn open(&mut self) -> Option<(State, i64)> {
         let random = &mut self.random;
         let listing = random.pick(&self.characters.listings);
@@ -127,18 +139,14 @@ impl Desk<'_> {
                 let degree = *random.pick(&[0, 1, 16, 17, 18, 31]);
                 class = pack_class(&random_parts(random, degree));
             }
+            3 | 4 => shape = random_ones(random, shape),
             _ => {}
         }
         let words = *random.pick(&LENGTHS);
         let before: Vec<u64> = (0..words).map(|_| random.next()).collect();
-        let model = sessions::open(shape, class, words);
-        let refused = model.as_ref().err().copied().unwrap_or(0);
+        let (refused, state) = compare_open(self.group, shape, class, &before);
         self.calls += 1;
         self.called.count(refused);
-        let (slip, after) = model.unwrap_or((Slip::default(), before.clone()));
-        let answer = calls::open(shape, class, &before);
-        let state = (answer.answer.1, answer.run.clone());
-        self.group.same(answer, leaves((refused, slip), &after), || format!("open {shape:x} on {class:x}"));
         let (rows, parts) = read_pair(shape, class).ok().filter(|_| refused == 0)?;
         Some((state, self.characters.character(&rows, &parts)))
     }

@@ -7,7 +7,7 @@ use crate::calls;
 use crate::lent::{leaves, Left};
 use crate::model::characters::Characters;
 use crate::model::partitions::{degree, period, sign, size, transposed};
-use crate::model::words::{pack_class, pack_shape, read_class, read_pair, read_shape};
+use crate::model::words::{good_shape, pack_class, pack_shape, read_class, read_pair, read_shape};
 use crate::model::{Answer, Parts};
 use crate::random::Random;
 use crate::report::Group;
@@ -49,6 +49,7 @@ fn compare_word(characters: &Characters, word: u32, random: &mut Random, group: 
         what("character degree"),
     );
     group.same(calls::conjugate(word), valued(conjugate), what("conjugate"));
+    group.same(calls::good_shape(word), valued(good_shape(word)), what("good shape"));
     group.same(calls::class_sign(word), of_parts(&|parts| sign(parts)), what("sign"));
     group.same(calls::class_size(word), of_parts(&|parts| size(parts)), what("size"));
     group.same(calls::class_period(word), of_parts(&|parts| period(parts)), what("period"));

@@ -2,7 +2,7 @@
 
 use super::characters::Characters;
 use super::partitions::{degree, factorial, strikes, without};
-use super::words::{pack_class, pack_shape, read_class, read_pair, read_shape};
+use super::words::{pack_class, pack_shape, read_class, read_good_shape, read_pair};
 use super::{Answer, Parts, DEGREE_LIMIT};
 
 /// The longest page.
@@ -33,7 +33,7 @@ impl Line {
 
     /// The line of a word: a good shape word and a good class word of one degree, 1 to n.
     fn read(word: u64, n: u32) -> Option<Line> {
-        let shape = read_shape((word >> 32) as u32 % (1 << 31)).ok()?;
+        let shape = read_good_shape((word >> 32) as u32 % (1 << 31)).ok()?;
         let class = read_class(word as u32).ok()?;
         let degrees = [degree(&shape), degree(&class)];
         let sign = if word >> 63 == 1 { -1 } else { 1 };
@@ -63,9 +63,10 @@ pub fn written(lines: &[Line], words: usize) -> Answer<Vec<u64>> {
     Ok([lines.iter().map(Line::word).collect(), zeros].concat())
 }
 
-/// The slip and the page of an opening. Refuses 1, 3, 2, 4, 5, 6, 10.
+/// The slip and the page of an opening, both with the good word of the shape. Refuses 1, 3, 2, 4, 5, 6, 10.
 pub fn open(shape: u32, class: u32, words: usize) -> Answer<(Slip, Vec<u64>)> {
     let (rows, cycles) = read_pair(shape, class)?;
+    let shape = pack_shape(&rows);
     if words > PAGE_LIMIT {
         return Err(6);
     }
@@ -85,7 +86,8 @@ pub fn sound(slip: &Slip, page: &[u64]) -> Answer<Vec<Line>> {
 }
 
 fn sound_lines(slip: &Slip, page: &[u64]) -> Option<Vec<Line>> {
-    let n = degree(&read_pair(slip.shape, slip.class).ok()?.0);
+    let n = degree(&read_good_shape(slip.shape).ok()?);
+    read_pair(slip.shape, slip.class).ok()?;
     let count = usize::try_from(slip.lines).ok().filter(|&count| count <= page.len())?;
     let lines = page[..count].iter().map(|&word| Line::read(word, n)).collect::<Option<Vec<Line>>>()?;
     let degrees = || lines.iter().map(|line| degree(&line.shape));

@@ -12,10 +12,10 @@ fn word(digits: &str) -> u32 {
     u32::from_str_radix(&format!("0{digits:0<31}"), 2).unwrap()
 }
 
-/// The rows of a shape word. Refuses 1, 2.
+/// The rows of a shape word, which may have ones in front: they stand after no zero and lengthen no row. Refuses 1, 2.
 pub fn read_shape(word: u32) -> Answer<Parts> {
     let digits = digits(word);
-    if !digits.starts_with("00") {
+    if digits.starts_with('1') {
         return Err(1);
     }
     let mut rows = vec![];
@@ -28,6 +28,21 @@ pub fn read_shape(word: u32) -> Answer<Parts> {
         }
     }
     within(rows, 2)
+}
+
+/// The rows of a shape word that has to be good, as those of slips, lines and lists have. Refuses 1, 2.
+pub fn read_good_shape(word: u32) -> Answer<Parts> {
+    if !digits(word).starts_with("00") {
+        return Err(1);
+    }
+    read_shape(word)
+}
+
+/// The good word of a shape word, which its rows are packed to again, and how many ones stand in front. Refuses 1, 2.
+pub fn good_shape(word: u32) -> Answer<(u32, u32)> {
+    let rows = read_shape(word)?;
+    let in_front = digits(word).chars().skip(1).take_while(|&digit| digit == '1').count();
+    Ok((pack_shape(&rows), in_front as u32))
 }
 
 /// The parts of a class word. Refuses 3, 4.

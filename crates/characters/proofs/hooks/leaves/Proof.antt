@@ -5,8 +5,7 @@ use native.Mathlib.Omega.{arith}
 use lib.Pow.{pow-mono, pow-lt}
 use borrow.Author.Needs.{needs}
 use Rattle.theory.specs.Digits.Laws.{one-shifted}
-use Rattle.theory.specs.Hooks.Marks.{onesOut}
-use Rattle.theory.specs.Hooks.Marks.Laws.{ones-few}
+use Rattle.theory.specs.ShapeWord.Shifting.{onesBefore, onesOut, ones-few}
 use Rattle.characters.proofs.hooks.leaves.Statement.{statement}
 use Rattle.characters.proofs.hooks.leaves.Tie as tie
 
@@ -31,10 +30,11 @@ sub-exchanged-2 c =
     (omega arith)
 
 shl-result : tie.Need-shl-result
+unfolding onesBefore
 shl-result c = ones-few _
 
 returns : tie.Need-returns
-unfolding onesOut
+unfolding onesBefore onesOut
 returns c =
     rw (one-shifted 32 (c .args .place) (omega arith), one-shifted 32 (c .args .place - c .args .length) (omega arith))
 

@@ -1,6 +1,6 @@
 -- `characters::sessions::open` meets its contract: each return is the first check that applies, or the opened page.
 use mathlib.Core.Path.{_≡_, _∙_, sym}
-use Prim.Native.Nat.{_%_, _^_}
+use Prim.Native.Nat.{ℕ, _%_, _^_}
 use native.Mathlib.Omega.{arith}
 use borrow.Author.Needs.{needs}
 use Rattle.theory.specs.Limits.{degreeLimit}
@@ -45,7 +45,7 @@ returns-3 c =
     let else2 = then .before .before in
     let p = pair (else2 .before) in
     rw (c .before .before .clear .ensures)
-    (empty-opens _ _ _ _ (p .none) (else2 .if2 .left) (sym (p .degree) ∙ then .if3 .taken))
+    (empty-opens _ _ _ _ (p .none) (else2 .if2 .left) _ (p .shape) (sym (p .degree) ∙ then .if3 .taken))
 
 unopened-requires-3 : tie.Need-unopened-requires-3
 unopened-requires-3 c κs = search needs
@@ -77,11 +77,11 @@ returns-5 c =
     let else3 = else4 .before in
     let else2 = else3 .before .before in
     let p = pair (else2 .before) in
-    let below = p .words .shape .good .below in
-    let s = else2 .before .before .before .before .before .args .shape in
-    let plus : s % 2 ^ 31 ≡ s = omega arith in
+    let w : ℕ = else2 .before .before .before .common-degree .result .shape in
+    let plus : w % 2 ^ 31 ≡ w = omega (arith, p .words .shape .good .below) in
     rw (c .before .before .before .clear2 .ensures, c .word .ensures, plus)
-    (line-opens _ _ _ _ (p .none) (else2 .if2 .left) (λ none. else3 .if3 .left (p .degree ∙ none)) (else4 .if4 .left))
+    (line-opens _ _ _ _ (p .none) (else2 .if2 .left) (λ none. else3 .if3 .left (p .degree ∙ none)) w (p .shape)
+    (else4 .if4 .left))
 
 pub open-spec : {M : Type 1} → statement M
 open-spec =

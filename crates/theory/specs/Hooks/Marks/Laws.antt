@@ -2,30 +2,30 @@
 use mathlib.Core.Path.{_≡_, refl, sym, _∙_, ap, ap₂, fun-ext}
 use mathlib.Core.List.{map-map, map-append}
 use Prim.Native.Nat.{_<_, _≤_}
-use native.Mathlib.Nat.{suc-add, zero-add, mod-eq-of-lt, mod-lt, pow-suc, mul-one}
+use native.Mathlib.Nat.{suc-add, zero-add, mod-eq-of-lt, mod-lt}
 use native.Mathlib.Numerals.{add-one}
 use native.Mathlib.Decide.{decLt}
 use native.Mathlib.Omega.{arith}
 use borrow.Author.Tests.{le-leb, lt-leb}
 use lib.Count
-use lib.Count.{leadingZeros, leading-top, leading-length, leading-unique}
 use lib.ListN.{drop-of-length-le}
-use lib.Pow.{pow-pos, pow-mono, shr-shr, mod-mod-pow, low, split}
+use lib.Pow.{pow-pos, pow-mono, shr-shr}
 use lib.Seq.{take-at, drop-at}
 use Rattle.theory.specs.Basics.{Bool, true, false, not, cond, _&&_, List, [], _∷_, _++_, map, take, drop, length}
 use Rattle.theory.specs.Basics.{ℕ, zero, suc, _+_, _-_, _*_, _/_, _%_, _^_, _=?_, odd}
 use Rattle.theory.specs.Digits.{Digits, bit, digits, word, ones, zeros, width}
-use Rattle.theory.specs.Digits.Laws.{digits-rest, word-digits, word-below, length-digits}
+use Rattle.theory.specs.Digits.Laws.{digits-rest, word-digits, length-digits}
 use Rattle.theory.specs.Digits.LastOne.{ones-append}
 use Rattle.theory.specs.Digits.Low.{digits-last}
 use Rattle.theory.specs.Digits.Bits.{bitBelow, bit-rest, bit-not, bit-shift, bit-and, digits-cut}
+use Rattle.theory.specs.ShapeWord.Shifting.{onesOut, ones-out}
 use Rattle.theory.specs.ShapeWord.Reading.{ones-digits}
-use Rattle.theory.specs.Hooks.{Hook, hooks, shifted, hookWord, hookWords}
+use Rattle.theory.specs.Hooks.{Hook, hooks, hookWord, hookWords}
 use Rattle.theory.specs.Hooks.Walk.{led, hookOver, hooks-none, hooks-one, hooks-zero}
-use Rattle.theory.specs.Hooks.Laws.{Exchange, exchanges, length-shifted}
+use Rattle.theory.specs.Hooks.Laws.{Exchange, exchanges}
 use Rattle.theory.specs.Basics.Laws.{map-same}
 use Rattle.theory.specs.Digits.LastOne.{ones-zeros}
-use Rattle.theory.specs.Hooks.Marks.{marks, places, exchanged, minusAt, onesOut, markedHook}
+use Rattle.theory.specs.Hooks.Marks.{marks, places, exchanged, minusAt, markedHook}
 
 -- ---- where the marks stand
 -- a zero at place b and a one h places below it
@@ -171,68 +171,6 @@ module _ (k x : ℕ) where
           ∙ ap₂ (λ (hs gs : List (Hook ℕ)). hs ++ gs) (first-hook n e) (rw e at rest)
           ∙ front (bitBelow (suc k) n x))
 
--- ---- leading ones shifted out
-word-more : (n : ℕ) (ds : Digits) → length ds ≤ n → word (suc n) ds ≡ word n ds * 2
-unfolding word
-word-more zero [] l = refl
-word-more (suc n) [] l = refl
-word-more zero (d ∷ ds) l = absurd (omega arith)
-word-more (suc n) (true ∷ ds) l = omega (arith, word-more n ds (omega arith))
-word-more (suc n) (false ∷ ds) l = word-more n ds (omega arith)
-
--- how many ones begin the n digits of t
-abbrev leadingOnes : ℕ → ℕ → ℕ
-leadingOnes n t = leadingZeros (suc n) ((2 ^ suc n - 1) - t * 2)
-
-leading-none : (n t : ℕ) → t < 2 ^ n → leadingOnes (suc n) t ≡ 0
-leading-none n t l =
-    let a : ℕ = (2 ^ suc (suc n) - 1) - t * 2 in
-    sym (leading-unique (suc (suc n)) a 0 (suc (suc n)) (omega arith) (omega arith) (omega arith))
-
-leading-one : (n t : ℕ) → t < 2 ^ n → leadingOnes (suc n) (2 ^ n + t) ≡ suc (leadingOnes n t)
-leading-one n t l =
-    let a : ℕ = (2 ^ suc n - 1) - t * 2 in
-    let e : (2 ^ suc (suc n) - 1) - (2 ^ n + t) * 2 ≡ a = omega arith in
-    let (m, all, above, below) = leading-length (suc n) a (omega arith) in
-    rw e (sym (leading-unique (suc (suc n)) a (suc (leadingOnes n t)) m (omega arith) above below))
-
-one-shifted-out : (n z t : ℕ) → (2 ^ n + t) * 2 ^ suc z % 2 ^ suc n ≡ t * 2 ^ z % 2 ^ n * 2
-one-shifted-out n z t =
-    let y : ℕ = t * 2 ^ z in
-    let e : (2 ^ n + t) * 2 ^ suc z ≡ (2 ^ z + y / 2 ^ n) * 2 ^ suc n + y % 2 ^ n * 2 =
-    rw (pow-suc 2 z, pow-suc 2 n) (omega (arith, split y n)) in
-    rw (e, low (2 ^ z + y / 2 ^ n) (suc n) {lo = y % 2 ^ n * 2} (omega (arith, mod-lt y (pow-pos n))))
-
-shifted-by-ones : (ds : Digits) → word (length ds) (shifted ds)
-    ≡ word (length ds) ds * 2 ^ leadingOnes (length ds) (word (length ds) ds) % 2 ^ length ds
-unfolding word
-shifted-by-ones [] = omega arith
-shifted-by-ones (true ∷ ds) =
-    let n : ℕ = length ds in
-    let t : ℕ = word n ds in
-    word-more n (shifted ds) (length-shifted ds)
-    ∙ ap (λ (y : ℕ). y * 2) (shifted-by-ones ds)
-    ∙ sym (rw (leading-one n t (word-below n ds)) (one-shifted-out n (leadingOnes n t) t))
-shifted-by-ones (false ∷ ds) =
-    let n : ℕ = length ds in
-    let t : ℕ = word n ds in
-    let small : t < 2 ^ suc n = omega (arith, word-below n ds) in
-    rw (leading-none n t (word-below n ds), mul-one) (sym (mod-eq-of-lt small))
-
-ones-out : (ds : Digits) → length ds ≡ width → word width (shifted ds) ≡ onesOut (word width ds)
-unfolding onesOut
-ones-out ds l =
-    let t : ℕ = word width ds in
-    let small : t < 2 ^ 31 = word-below width ds in
-    let twice : t * 2 % 2 ^ 32 ≡ t * 2 = mod-eq-of-lt (omega arith) in
-    rw (twice, mod-mod-pow (t * 2 ^ leadingOnes 31 t) 1 31) (rw l at (shifted-by-ones ds))
-
--- they are fewer than the bits of a word
-pub ones-few : (t : ℕ) → leadingZeros 32 ((2 ^ 32 - 1) - t * 2 % 2 ^ 32) < 32
-ones-few t =
-    let (j, all, lo, hi) = leading-top 32 ((2 ^ 32 - 1) - t * 2 % 2 ^ 32) (omega arith) (omega arith) in
-    omega arith
-
 -- ---- the hooks of a word
 pub hooks-marked : (h s : ℕ) → 1 ≤ h → s < 2 ^ 31 → hookWords h s ≡ map (markedHook h s) (places width (marks s h))
 unfolding hookWords
@@ -250,4 +188,4 @@ hooks-marked (suc k) s long small =
 
     same : (hook : Hook Digits) → Exchange (suc k) (digits width s) hook
         → hookWord hook ≡ out (asWord width hook)
-    same hook e = rw (ones-out (hook .leaves) (e .same-length ∙ length-digits width s))
+    same hook e = rw (← ones-out (hook .leaves) (e .same-length ∙ length-digits width s))

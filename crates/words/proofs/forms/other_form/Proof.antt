@@ -1,7 +1,7 @@
 -- `words::forms::other_form` meets its contract: what passes the checks of its form is as the move from it asks.
 use native.Mathlib.Omega.{arith}
 use Rattle.theory.specs.Limits.{degreeLimit}
-use Rattle.theory.specs.Refusals.Laws.{within, within-class}
+use Rattle.theory.specs.Refusals.Laws.{good-word-within, within-class}
 use Rattle.words.proofs.Measures.{class-fits}
 use Rattle.words.proofs.forms.other_form.Statement.{statement}
 use Rattle.words.proofs.forms.other_form.Tie as tie
@@ -11,7 +11,7 @@ new-word-requires c κs = class-fits (omega arith) (within-class degreeLimit _ (
 
 old-word-requires : tie.Need-old-word-requires
 old-word-requires c κs =
-    let p = within degreeLimit _ (rw (c .if1 .left) at (c .before .pre)) in
+    let p = good-word-within degreeLimit _ (rw (c .if1 .left) at (c .before .pre)) in
     record { good = p .good; small = omega (arith, p .small) }
 
 returns : tie.Need-returns

@@ -7,17 +7,16 @@ use Rattle.theory.specs.ShapeWord.{shapeOf}
 use Rattle.theory.specs.Refusals.{shapeChecks}
 use Rattle.theory.specs.Limits.{degreeLimit}
 use Rattle.words.specs.Calls.{shapeDegree}
-use Rattle.words.proofs.Answers.{number-given}
-use Rattle.words.proofs.Measures.{Measures, measures, number-handed}
+use Rattle.words.proofs.Answers.{number-refused, number-given}
+use Rattle.words.proofs.Readings.{ShapeRead, reading-number, shape-read}
 use Rattle.words.proofs.shapes.degree.Statement.{statement}
 use Rattle.words.proofs.shapes.degree.Tie as tie
 
 abbrev word : tie.Else1 → ℕ
 word c = c .before .before .before .args .word
 
-pass : (c : tie.Else1)
-    → Measures (shapeChecks degreeLimit (word c)) (shapeOf (word c)) (c .before .before .read .result)
-pass c = measures _ _ _ (c .before .before .read .ensures) (c .if1 .left)
+pass : (c : tie.Else1) → ShapeRead degreeLimit (word c) (c .before .before .read .result)
+pass c = shape-read degreeLimit (word c) _ (c .before .before .read .ensures) (c .if1 .left)
 
 read-requires : tie.Need-read-requires
 read-requires c κs = search needs
@@ -29,7 +28,9 @@ returns : tie.Need-returns
 unfolding shapeDegree
 returns c =
     let a = c .before .before .before in
-    number-handed _ _ _ (a .read .ensures) _ (c .before .if1 .taken) (c .refused .ensures)
+    let w = a .before .args .word in
+    let e = reading-number degreeLimit w (a .read .result) (a .read .ensures) in
+    c .refused .ensures ∙ number-refused (shapeChecks degreeLimit w) _ _ e (c .before .if1 .taken)
 
 cast-given : tie.Need-cast-given
 cast-given c = search needs

@@ -2,21 +2,14 @@
 --   ShapeRead limit w r   no check refuses the shape word w, and the reading r has its good word, the ones dropped and
 --                         its degree
 use mathlib.Core.Path.{_≡_, refl, sym, _∙_, ap}
-use Prim.Native.Nat.{_<_}
-use native.Mathlib.Omega.{arith}
-use Rattle.theory.specs.Basics.{length, ℕ, zero, suc, _^_}
+use Rattle.theory.specs.Basics.{ℕ}
 use Rattle.theory.specs.Partition.{degree}
-use Rattle.theory.specs.Digits.{width}
 use Rattle.theory.specs.ShapeWord.{shapeOf, goodWord, dropped}
-use Rattle.theory.specs.ShapeWord.Good.{good-shape}
-use Rattle.theory.specs.ShapeWord.InFront.{dropped-shape, dropped-good}
-use Rattle.theory.specs.ShapeWord.Counts.{rows-of-zero}
-use Rattle.theory.specs.Refusals.{firstOf, refusedOr, shapeChecks}
+use Rattle.theory.specs.ShapeWord.InFront.{dropped-shape}
+use Rattle.theory.specs.Refusals.{firstOf, shapeChecks}
 use Rattle.theory.specs.Refusals.Laws.{or-refused, made-of, answer-number, answer-given, Within, within}
-use Rattle.words.specs.declared.Measure.{Measure}
 use Rattle.words.specs.Answers.{reading, goodAnswer, GoodAnswer, ShapeReading}
 use Rattle.words.specs.Calls.{shapeReading, goodShapeWord}
-use Rattle.words.specs.Private.Reading.{measure, measured}
 
 pub record ShapeRead (limit w : ℕ) (r : ShapeReading) : Type 0 where
   pub none : firstOf (shapeChecks limit w) ≡ 0
@@ -77,26 +70,3 @@ module _ (limit w : ℕ) where
     reading-good =
         let cut : ShapeReading → GoodAnswer = λ x. goodAnswer (x .refused) (x .word) (x .dropped) in
         ap cut e ∙ made-of cut refused given (firstOf (shapeChecks limit w))
-
-    -- the word handed on has a clear sign digit, refused or given
-    pub reading-below : r .word < 2 ^ 31
-    unfolding shapeReading
-    reading-below =
-        rw (ap (λ (x : ShapeReading). x .word) e ∙ made-of (λ (x : ShapeReading). x .word) refused given k) (go k)
-      where
-        k : ℕ
-        k = firstOf (shapeChecks limit w)
-
-        go : (k : ℕ) → refusedOr k (λ k. 0) (goodWord w) < 2 ^ 31
-        go zero = omega (arith, good-shape (goodWord w) (dropped-good w) .below)
-        go (suc k) = omega arith
-
-    -- with the rows of that word counted it is what is measured of the word
-    pub reading-measure : (n : ℕ) → n ≡ length (shapeOf (r .word))
-        → measure (r .refused) (r .degree) n ≡ measured (shapeChecks limit w) (shapeOf w)
-    unfolding shapeReading measured
-    reading-measure n rows =
-        let cut : ShapeReading → Measure = λ x. measure (x .refused) (x .degree) (length (shapeOf (x .word))) in
-        ap (measure (r .refused) (r .degree)) rows ∙ ap cut e
-        ∙ made-of cut refused given (firstOf (shapeChecks limit w))
-        ∙ rw (rows-of-zero width, dropped-shape w)

@@ -7,8 +7,9 @@ ghost use Rattle.theory.specs.Partition.{degree};
 ghost use Rattle.theory.specs.ShapeWord.{shapeWord, shapeOf, conjugateWord, dropped};
 ghost use Rattle.theory.specs.Limits.{degreeLimit};
 ghost use Rattle.theory.specs.Bounds.Laws.{largestLimit};
+ghost use Rattle.theory.specs.Refusals.{shapeChecks};
 ghost use Rattle.words.specs.Answers.{Outcome, atFront, reading};
-ghost use Rattle.words.specs.Private.Reading.{ListWithin};
+ghost use Rattle.words.specs.Private.Reading.{measured, ListWithin};
 ghost use Rattle.words.specs.Calls.{shapeWordFrom, shapeReading, goodShapeWord, shapePartsInto, shapeDegree};
 ghost use Rattle.words.specs.Calls.{conjugateShape, shapesFromOld, shapesToOld};
 use super::CountAnswer;
@@ -141,6 +142,25 @@ pub fn good(word: u32) -> GoodAnswer
     }
 }
 
+// What is told of the rows of a shape word, which ones in front do not change.
+fn measure(word: u32) -> Measure
+    ensures { λ r. ⌜ r ≡ measured (shapeChecks degreeLimit word) (shapeOf word) ⌝ }
+{
+    let shape = read(word);
+    if shape.refused != 0 {
+        return Measure {
+            refused: shape.refused,
+            degree: 0,
+            count: 0,
+        };
+    }
+    Measure {
+        refused: 0,
+        degree: shape.degree,
+        count: row_count(word),
+    }
+}
+
 // The rows of a word to the front of a column that has room.
 fn write_rows(word: u32, column: &mut [u8])
     requires { ⌜ (word < 2 ^ 31) × (length (shapeOf word) ≤ length (now column)) ⌝ }
@@ -167,17 +187,11 @@ fn write_rows(word: u32, column: &mut [u8])
 pub fn parts(word: u32, column: &mut [u8]) -> CountAnswer
     ensures { λ r. ⌜ Outcome (shapePartsInto degreeLimit word (now (column .entry))) r (now (column .exit)) ⌝ }
 {
-    let shape = read(word);
-    let measure = Measure {
-        refused: shape.refused,
-        degree: shape.degree,
-        count: row_count(shape.word),
-    };
-    let answer = count_within(measure, column.len());
+    let answer = count_within(measure(word), column.len());
     if answer.refused != 0 {
         return answer;
     }
-    write_rows(shape.word, column);
+    write_rows(word, column);
     answer
 }
 

@@ -292,26 +292,39 @@ def shapes_read(n, seed):
 
 @notion(least=LIMIT)
 def good_words(n, seed):
-    """Good words of shape words with ones in front, and how many these are; the call that answers both."""
+    """Good words of shape words with ones in front, and how many these are."""
     r = random.Random('%s %s good words' % (seed, n))
     for p in partitions(n):
         good, room = shape_word(p), room_in_front(shape_word(p))
         for ones in sorted({0, 1, r.randint(1, room), room}):
-            w = in_front(good, ones)
-            yield 'goodWord ' + nat(w), nat(good)
-            yield 'dropped ' + nat(w), nat(ones)
-        yield call('goodShapeWord', nat(w)), good_answer(0, good, ones)
+            yield 'goodWord ' + nat(in_front(good, ones)), nat(good)
+            yield 'dropped ' + nat(in_front(good, ones)), nat(ones)
+
+
+@notion(least=LIMIT)
+def good_answers(n, seed):
+    """The call that answers both."""
+    r = random.Random('%s %s good answers' % (seed, n))
+    for p in partitions(n):
+        good = shape_word(p)
+        ones = r.randint(0, room_in_front(good))
+        yield call('goodShapeWord', nat(in_front(good, ones))), good_answer(0, good, ones)
 
 
 @notion(most=0)
 def any_good_words(n, seed):
-    """The same of words at the borders and at random."""
+    """The same words and counts at the borders and at random."""
     for w in some_words(seed, 200):
-        k = shape_refusal(w)
-        yield call('goodShapeWord', nat(w)), good_answer(k, good_word(w), dropped(w))
         if w < 2**31:
             yield 'goodWord ' + nat(w), nat(good_word(w))
             yield 'dropped ' + nat(w), nat(dropped(w))
+
+
+@notion(most=0)
+def any_good_answers(n, seed):
+    """And the call."""
+    for w in some_words(seed, 200):
+        yield call('goodShapeWord', nat(w)), good_answer(shape_refusal(w), good_word(w), dropped(w))
 
 
 def good_answer(k, word, ones):

@@ -26,8 +26,8 @@ size_t cut_words(char *text, char *words[MOST_WORDS]);
 /* A number of decimal figures and nothing else; false where it is none, or has no room in 64 bits. */
 bool read_number(const char *text, uint64_t *number);
 
-/* Reads a shape of a line, as parts or as a word. Where it is refused, it says so, and where a word has ones in front,
- * that the library drops them. */
+/* Reads a shape of a line, as parts or as a word. Where it is refused, it says so, and where the library drops ones in
+ * front of a word, how many. */
 bool read_shape(char *text, uint32_t *shape);
 
 /* Reads a class of a line, as parts or as a word. Where it is refused, it says so. */

@@ -2,9 +2,9 @@
  *
  * Partitions have degree 0 to 16. A shape word packs a partition as a shape, a class word packs it as a class of
  * permutations; docs/READING.md has the rules. A shape word may have ones in front, from bit 30 down: a call that takes
- * a shape word drops them and works on the good word, which has none. Slips, pages and lists hold good words only. Every
- * call takes every number: what it cannot answer it refuses, with one of the numbers below. A refused value, word or
- * count is 0, and a refused call writes nothing.
+ * a shape word answers as for the good word, which has none. Slips, pages and lists hold good words only. Every call
+ * takes every number: what it cannot answer it refuses, with one of the numbers below. A refused value, word or count is
+ * 0, and a refused call writes nothing.
  *
  * A lent run is a pointer and then a length in elements. The pointer is good for that many elements and is not NULL,
  * even where the length is 0; nothing outside the run is read or written. Two runs lent to one call do not overlap. The

@@ -75,10 +75,10 @@ class-carried limit c room =
     let n : ℕ = natAbs (classDegree limit c .number) in
     ap carried (class-natural limit c) ∙ carried-is (pos n) (omega (arith, class-small limit c))
 
-pub word-small : (limit : ℕ) → limit ≤ largestLimit → (b : Bool) (w : ℕ) → wordDegree limit b w ≤ limit
+pub word-small : (limit : ℕ) (b : Bool) (w : ℕ) → wordDegree limit b w ≤ limit
 unfolding wordDegree
-word-small limit room true w = class-small limit w
-word-small limit room false w = go (goodShape w)
+word-small limit true w = class-small limit w
+word-small limit false w = go (goodShape w)
   where
     go : (b : Bool) → cond b (shapeReading limit w .degree) 0 ≤ limit
     go true = shape-small limit w

@@ -1,6 +1,5 @@
 -- What a reading of a shape word tells, and how the reader makes it.
---   ShapeRead limit w r   no check refuses the shape word w, and the reading r has its good word, the ones dropped and
---                         its degree
+--   ShapeRead limit w r   no check refuses the shape word w, and the reading r has its good word and its degree
 use mathlib.Core.Path.{_≡_, refl, sym, _∙_, ap}
 use Rattle.theory.specs.Basics.{ℕ}
 use Rattle.theory.specs.Partition.{degree}
@@ -15,7 +14,6 @@ pub record ShapeRead (limit w : ℕ) (r : ShapeReading) : Type 0 where
   pub none : firstOf (shapeChecks limit w) ≡ 0
   pub within : Within limit (goodWord w)
   pub word : r .word ≡ goodWord w
-  pub dropped : r .dropped ≡ dropped w
   pub degree : r .degree ≡ degree (shapeOf w)
 
 -- the word that is handed on is good, and has the shape of the one that was read
@@ -60,7 +58,6 @@ module _ (limit w : ℕ) where
           none = none;
           within = within limit w none;
           word = ap (λ (x : ShapeReading). x .word) is;
-          dropped = ap (λ (x : ShapeReading). x .dropped) is;
           degree = ap (λ (x : ShapeReading). x .degree) is;
         }
 

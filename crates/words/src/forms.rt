@@ -69,8 +69,8 @@ fn old_word(word: u32) -> u32
     bits
 }
 
-// The number that refuses a word, as the call for its degree gives it; 0 for none. A list keeps good words: a new word of
-// 2^30 or more is refused 1.
+// The number that refuses a word, as the call for its degree gives it; 0 for none. A list keeps good words: a new word
+// of 2^30 or more is refused 1.
 fn refusal(word: u32, old: bool) -> u8
     ensures { λ r. ⌜ r ≡ firstOf (formChecks degreeLimit old word) ⌝ }
 {

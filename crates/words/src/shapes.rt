@@ -88,7 +88,7 @@ fn row_count(word: u32) -> u32
     31 - u32::trailing_zeros(word) - u32::count_ones(word)
 }
 
-// How many ones stand in front of a word's digits.
+// How many ones a word's digits begin with.
 fn ones_in_front(word: u32) -> u32
     requires { ⌜ word < 2 ^ 31 ⌝ }
     ensures { λ r. ⌜ r ≡ dropped word ⌝ }
@@ -108,8 +108,8 @@ fn unread(number: u8) -> ShapeReading
     }
 }
 
-// The one reader of shape words: it drops the ones in front, and whoever asks it works on the good word that is left. The
-// degree, which they do not change, is that of the word as it came. Refuses 1, then 2.
+// The one reader of shape words: it drops the ones in front and gives the good word that is left, for whoever hands it
+// on or looks it up. Degree and rows, which they do not change, are taken from the word as it came. Refuses 1, then 2.
 pub fn read(word: u32) -> ShapeReading
     ensures { λ r. ⌜ r ≡ shapeReading degreeLimit word ⌝ }
 {

@@ -45,7 +45,7 @@ fn word(t: Tally, word: u32, shape: u8, n: i64, class: u8, m: i64) -> Tally {
     as_class(as_shape(t, word, shape, n), word, class, m)
 }
 
-// E4 is the fourth, E6 the sixth and the seventh.
+// E4 is the fourth, E6 the sixth and the eighth.
 pub fn words() -> Tally {
     let t = word(Tally::new(), 0x3FFF_FFFF, 2, 0, 4, 0);
     let t = word(t, 0x8000_0000, 1, 0, 3, 0);

@@ -2,8 +2,8 @@
 -- that `PeriodOfClass` promises, and no second; it refuses as the checks do (document 02, P2; document 01, "What the
 -- contracts have to say"). Lists of shapes move between two forms: each move keeps the partition, entry by entry, and
 -- there and back is the list again (document 02, P5), for any limit below the 31 digits of a word. Two words of one
--- shape get one answer, apart from the count of ones dropped; that is 0 for a good word and for no other (document 02,
--- P6).
+-- shape get one answer, apart from the count of ones dropped; of a word that is not refused the count is 0 exactly where
+-- the word is good (document 02, P6).
 --   apartFromCount a   the answer a without its count; readApart r, the reading r
 use mathlib.Core.Path.{_≡_, refl, sym, _∙_, ap}
 use Prim.Native.Nat.{_<_}
@@ -107,8 +107,8 @@ module _ (limit : ℕ) {v w : ℕ} (s : SameShape v w) where
   unfolding conjugateShape
   conjugate-alike = rw (s .first-clear, s .second-clear, s .shapes, one-conjugate v w (s .shapes))
 
--- from a good word nothing is dropped: it is read and answered as before P6, by the old checks; and from every other
--- word that is not refused something is dropped, so that another word is left
+-- from a good word nothing is dropped: it is read as before P6, by the old checks; and from every other word that is not
+-- refused something is dropped, so that another word is left
 module _ (limit w : ℕ) where
   module _ (good : goodShape w ≡ true) where
     pub good-read : shapeReading limit w
@@ -132,5 +132,5 @@ module _ (limit w : ℕ) where
     idle-good none =
         undropped-good w (shape-clear limit w (given .0)) (sym (ap (λ (x : GoodAnswer). x .dropped) (given .1)) ∙ none)
 
-    pub same-good-word : goodShapeWord limit w .word ≡ w → goodShape w ≡ true
-    same-good-word same = kept-good w (sym (ap (λ (x : GoodAnswer). x .word) (given .1)) ∙ same)
+    pub unchanged-good : goodShapeWord limit w .word ≡ w → goodShape w ≡ true
+    unchanged-good same = kept-good w (sym (ap (λ (x : GoodAnswer). x .word) (given .1)) ∙ same)

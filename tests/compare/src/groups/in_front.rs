@@ -1,6 +1,6 @@
-//! Words with ones in front: words by hand, every good word with as many ones in front as there is room for, words of
-//! degrees 17 and 18, and words at random. The library says of each what the model says and, the count apart, what it
-//! says of the good word.
+//! Words with ones in front: words by hand, the good word of every shape of degree 0 to 16 with none to as many ones in
+//! front as there is room for, words of degrees 17 and 18, and words at random. The library says of each what the model
+//! says and, the count apart, what it says of the good word.
 
 use super::columns::written;
 use super::draws::{listed, random_ones, random_word, room_in_front, with_ones};

@@ -1,5 +1,6 @@
-//! Slips, lines, strips and lists keep good words: every good word with every number of ones in front is put in its
-//! place in each of them, in a strip with one such number at random, and is refused there.
+//! Slips, lines, strips and lists keep good words: the good word of every shape of degree 0 to 16 with every number of
+//! ones in front is put in its place in a slip, a line and a list, and a strip gets a new line with such a number drawn at
+//! random; each is refused.
 
 use super::draws::{listed, room_in_front, with_ones};
 use super::made::ones_in_front;

@@ -59,7 +59,7 @@ returns-3 : tie.Need-returns-3
 returns-3 c =
     let start = c .before .before .before .before .before in
     let a = start .args in
-    let small = word-small degreeLimit (omega arith) (a .class) (a .word) in (
+    let small = word-small degreeLimit (a .class) (a .word) in (
       c .read2 .ensures,
       one-more-known (wordDegree degreeLimit (a .class)) (a .known .now) (a .word % 229) (a .word) (c .read2 .result)
           (start .pre)

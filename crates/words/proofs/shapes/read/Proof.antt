@@ -49,7 +49,9 @@ ones-in-front-requires : tie.Need-ones-in-front-requires
 ones-in-front-requires c κs = search needs
 
 shl-good : tie.Need-shl-good
-shl-good c = omega (arith, c .ones-in-front .ensures, dropped-few (word (c .before .before)) (below (c .before .before)))
+shl-good c =
+    let p = c .before .before in
+    omega (arith, c .ones-in-front .ensures, dropped-few (word p) (below p))
 
 returns-3 : tie.Need-returns-3
 returns-3 c =

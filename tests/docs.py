@@ -35,7 +35,7 @@ rt help stdout NAME CRATE
     'elim z [ | pos n ↦ .. ]', 'r .refused', '.0', '.1', 'now (page .entry)', 'now (page .exit)', '&', '&[u8]', '&[..]',
     '&[u64]', '&mut [..]', '&mut [u64]', '&mut [i64]', '!s & (s << h)', 'suc zero', 'extern "C"', '-lzembrusha',
     'X: name', 'X.antt', 'specs/X.antt', 'specs/X/', 'proofs/F/Proof.antt', 'crate::function',
-    'degree=', 'degree=3', 'class=', 'class=3', 'refused=12', 'refused=13', 'table 5', '0x2C000000',
+    'In', 'By', 'mode=gathered', 'degree=', 'degree=3', 'class=', 'class=3', 'refused=12', 'refused=13', 'table 5', '0x2C000000',
     'N passed, 0 failed', 'old:', 'new:', 'pub mod', 'pub fn'}
 
 # Commands of rt, and the folder of what they make, which need not be there.
@@ -215,8 +215,10 @@ def wrong_promises(text):
             continue
         for why in [*wrong_theorem(function, crate, theorem), *wrong_edits(crate, edits)]:
             yield '%s: %s' % (function, why)
-    theorems = [name for _, cell, _ in rows for name in re.findall(r'`([^`]+)`', cell)]
     for file in glob.glob('crates/*/proofs/Unique.antt'):
+        crate = file.split('/')[1]
+        theorems = [name for function, cell, _ in rows if function.startswith(crate + '::')
+                    for name in re.findall(r'`([^`]+)`', cell)]
         for name, item in tree.module(file)[0].items():
             if item.text.startswith('pub ') and theorems.count(name) != 1:
                 yield '%s of %s is named %d times' % (name, file, theorems.count(name))

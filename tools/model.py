@@ -193,9 +193,9 @@ def line_word(sign, s, c):
 
 
 def sound(slip, page):
-    """Document 01's sound slip and page; a slip is (shape, class, settled, lines, steps)."""
-    s, c, settled, lines, steps = slip
-    if s >= 2**30 or pair_refusal(s, c) or lines > len(page) or any(page[lines:]):
+    """Document 01's sound slip and page; a slip is (shape, class, settled, lines, steps, mode), of mode 0."""
+    s, c, settled, lines, steps, mode = slip
+    if mode or s >= 2**30 or pair_refusal(s, c) or lines > len(page) or any(page[lines:]):
         return False
     n, degrees = sum(shape_of(s)), []
     for _, t, k in map(line, page[:lines]):
@@ -213,8 +213,8 @@ def opened(s, c, page):
     lines = [line_word(1, good, c)] if shape_of(s) else []
     k = pair_refusal(s, c) or first_of((len(page) > PAGE, 6), (len(lines) > len(page), 10))
     if k:
-        return k, (0, 0, 0, 0, 0), page
-    return 0, (good, c, 0 if lines else 1, len(lines), 0), lines + [0] * (len(page) - len(lines))
+        return k, (0,) * 6, page
+    return 0, (good, c, 0 if lines else 1, len(lines), 0, 0), lines + [0] * (len(page) - len(lines))
 
 
 def struck(slip, page, i, cycle):
@@ -242,12 +242,12 @@ def previewed(slip, page, i, cycle, strip):
 def committed(slip, page, i, cycle, strip):
     """What a commit answers: refusal number, slip, page."""
     k, new, sign = struck(slip, page, i, cycle)
-    s, c, settled, lines, steps = slip
+    s, c, settled, lines, steps, mode = slip
     after = page[:i] + page[i + 1:lines] + new
     k = k or first_of((strip[:len(new)] != new, 19), (len(after) > len(page), 10))
     if k:
         return k, slip, page
-    return 0, (s, c, settled + sign, len(after), steps + 1), after + [0] * (len(page) - len(after))
+    return 0, (s, c, settled + sign, len(after), steps + 1, mode), after + [0] * (len(page) - len(after))
 
 
 def watched(slip, page, kind, i):

@@ -2,20 +2,22 @@
 """values.py: reckons values by a model of its own, and has the checker compute the definitions and compare.
 
 The definitions are those of the specs of `theory`, `words`, `listing`, `pages`, `characters` and `sessiontext`. The
-model, which shares nothing with them, is model.py, and texts.py for the text of a session. Each equation is a list of
-expressions over the definitions and the list of their values, proved by computation alone (`refl`).
+model, which shares nothing with them, is model.py, gathering.py for the gathered mode, and texts.py for the text of a
+session. Each equation is a list of expressions over the definitions and the list of their values, proved by computation
+alone (`refl`).
 
 A copy of the crates is made in a temporary folder, with crates beside them that have the equations, and `rt` proves
 these; what the repository has proved already is not proved again. Then some values of each notion are changed at
 random, one in an equation, and the checker has to refuse every such equation: so the comparison can fail.
 
-    python3 tools/values.py                  characters and watches up to degree 10, the rest up to 16
+    python3 tools/values.py                  characters and watches up to degree 10, the rest up to 16; the gathered
+                                             mode up to 8, and on (2^8)
     python3 tools/values.py --degree 8       characters and watches less far
     python3 tools/values.py --only commits,watches --seed 7    some notions, other random cases
     python3 tools/values.py --keep DIR       leave the equations in DIR, to be read
 
-Without options it compares some 57,000 values of 3,700 equations, in 200 seconds of processor time on as many cores as
-there are up to four (five minutes were seen on two busy ones); longer where the crates have to be proved first.
+Without options it compares some 63,000 values of 4,300 equations, in 240 seconds of processor time on as many cores as
+there are up to four (four minutes were seen on two busy ones); longer where the crates have to be proved first.
 
 It is run by hand, and is no part of the gate. The exit status is 0 only if every value agrees and every changed one is
 refused. It needs Python 3 and `rt`. For a new definition write one more function with @notion in front, which yields
@@ -35,11 +37,13 @@ from itertools import groupby
 from math import factorial
 
 sys.dont_write_bytecode = True
+import gathering  # noqa: E402
 from model import (  # noqa: E402
     LIMIT, LIST, PAGE, character, class_of, class_refusal, class_size, class_word, committed, dropped, first_of,
     good_shape_refusal, good_word, hooks, line, line_word, list_refusal, most_steps, number, opened, pair_refusal,
     partitions, period, previewed, shape_of, shape_refusal, shape_word, sound, struck, transposed, watched)
-from texts import LEAST, MOST, by_hand, bytes_of, damaged, loaded, put_away, saved, taken_up  # noqa: E402
+from texts import (  # noqa: E402
+    LEAST, MOST, by_hand, bytes_of, damaged, gathered_by_hand, loaded, put_away, saved, taken_up)
 
 CRATES = ['theory', 'text', 'words', 'listing', 'pages', 'characters', 'sessiontext']
 LIBRARIES = ['check', 'io']  # what some of them rest on
@@ -84,13 +88,25 @@ def float_text(x):
 
 def slip_text(slip):
     """A slip."""
-    s, c, settled, lines, steps = slip
-    return '(slipOf %s %s %s %d %s)' % (nat(s), nat(c), integer(settled), lines, integer(steps))
+    s, c, settled, lines, steps, mode = slip
+    return '(slipOf %s %s %s %d %s %d)' % (nat(s), nat(c), integer(settled), lines, integer(steps), mode)
 
 
 def lines_text(lines):
     """Waiting lines."""
     return items(['plain %s %s %s' % (truth(sign < 0), nat(s), nat(c)) for sign, s, c in lines])
+
+
+def entries_text(lines):
+    """Waiting lines with coefficients."""
+    return items(['bearing %s %s %s' % (integer(z), nat(s), nat(c)) for z, s, c in lines])
+
+
+def lent_text(page, column):
+    """A page and a column of coefficients."""
+    zeros = len(column) > 64 and not any(column)
+    return '(lent %s %s)' % (nats(page), '(replicate %d (pos 0))' % len(column) if zeros
+                             else items(map(integer, column)))
 
 
 def bytes_text(text):
@@ -104,9 +120,27 @@ def left_text(answer):
     return 'after %d %s %s' % (k, slip_text(slip), nats(page))
 
 
+def both_left_text(answer):
+    """The same in the gathered mode."""
+    k, slip, page, column = answer
+    return 'left %d %s %s' % (k, slip_text(slip), lent_text(page, column))
+
+
+def value_text(k, value, kind):
+    """What a watch answers."""
+    shown = ('none' if value is None else
+             '(quotient %s)' % float_text(value) if kind == 2 else '(whole %s)' % integer(value))
+    return 'saw %d %s' % (k, shown)
+
+
 def call(name, *texts):
     """A definition that takes the limit on degrees."""
     return ' '.join([name, 'degreeLimit', *texts])
+
+
+def gathered_call(name, *texts):
+    """One that takes a mode too, or a form of texts if it ends in By: the gathered one."""
+    return call('%s %s' % (name, 'gatheredForm' if name.endswith('By') else 'gatheredMode'), *texts)
 
 
 # ---- cases
@@ -181,9 +215,9 @@ def some_sessions(n, seed):
 
 def spoilt(r, slip, page):
     """A slip and a page with one thing changed, sound or not."""
-    s, c, settled, lines, steps = slip
+    s, c, settled, lines, steps, mode = slip
     n, page, i = sum(shape_of(s)), list(page), r.randrange(len(page))
-    way = r.randrange(11)
+    way = r.randrange(12)
     if way == 0:
         lines = r.randint(0, len(page) + 1)
     elif way == 1:
@@ -206,9 +240,11 @@ def spoilt(r, slip, page):
     elif way == 9:
         sign, t, k = line(page[i])
         page[i] = line_word(sign, in_front(t, r.randint(1, 14)), k)
+    elif way == 10:
+        mode = r.choice([1, 1, 2, 2**32 - 1])
     else:
         page = page[:i]
-    return (s, c, settled, lines, steps), page
+    return (s, c, settled, lines, steps, mode), page
 
 
 def some_put_away(n, seed):
@@ -226,7 +262,7 @@ def some_put_away(n, seed):
         c = r.choice(partitions(r.choice([n, n, r.randint(0, LIMIT)])))
         settled = r.choice([LEAST, MOST, -1, factorial(n), -factorial(n), r.randint(-99, 99), r.randint(LEAST, MOST)])
         steps = r.choice([MOST, 10, most_steps(n), r.randint(0, 999), r.randint(0, MOST)])
-        yield (shape_word(r.choice(partitions(n))), class_word(c), settled, len(lines), steps), lines
+        yield (shape_word(r.choice(partitions(n))), class_word(c), settled, len(lines), steps, 0), lines
 
 
 def some_texts(n, seed):
@@ -236,6 +272,144 @@ def some_texts(n, seed):
         text = put_away(slip, lines)
         yield text
         yield from damaged(r, text)
+
+
+def resized(run, room):
+    """A run cut off or filled up with zeros to a length."""
+    return (run + [0] * room)[:max(0, room)]
+
+
+def some_gathered(n, seed):
+    """Slips, pages and columns of degree n, gathered: from openings on (1^n), on a class of twos and on another, struck
+    at random; made up, with a line and a cycle whose hooks meet equal lines (`met`); and these spoilt. With each a line
+    and a cycle to be named."""
+    r = random.Random('%s %s gathered' % (seed, n))
+    twos = (2,) * (n // 2) + (1,) * (n % 2)
+    for c in ((1,) * n, twos, r.choice(partitions(n))):
+        room = r.choice([2, 4, 7, 12])
+        word = shape_word(r.choice([p for p in partitions(n) if character(p, c)] or partitions(n)))
+        k, slip, page, column = gathering.opened(word, class_word(c), [7] * room, [-7] * room)
+        for _ in range(n + 2):
+            i = r.randrange(max(1, slip[3]))
+            cycles = class_of(page[i] % 2**32) if slip[3] else (1,)
+            cycle = r.choice([max(cycles), r.choice(cycles)])
+            yield slip, page, column, i, cycle
+            yield *spoilt_gathered(r, slip, page, column), r.randint(0, slip[3]), r.choice([cycle, r.randint(0, n)])
+            strip = gathering.strip_of(gathering.struck(slip, page, column, i, cycle)[1])
+            k, slip, page, column = gathering.committed(slip, page, column, i, cycle, strip)
+            if k:
+                break
+    for turn in range(10 if n >= 2 else 0):
+        slip, page, column, i, cycle = met(r, n, 1 + turn % 2 * 99)
+        yield slip, page, column, i, cycle
+        for _ in range(2):
+            yield *spoilt_gathered(r, slip, page, column), i, cycle
+
+
+def room_left(slip, page, column):
+    """What settled can be in size, and the steps can be, beside the lines of a slip, page and column."""
+    n, degrees = sum(shape_of(slip[0])), [sum(shape_of(word >> 32)) for word in page[:slip[3]]]
+    size = sum(abs(z) * factorial(d) for z, d in zip(column, degrees))
+    return factorial(n) - size, most_steps(n) - sum(map(most_steps, degrees))
+
+
+def met(r, n, tries):
+    """A sound slip, page and column of degree n, where some hooks of a line and a cycle meet lines equal to them, which
+    become 0, more or less; with that line and cycle, the one of most hooks in so many tries."""
+    while True:
+        degrees = [r.randint(2, max(2, n - 1)) for _ in range(tries)]
+        found = [[r.choice(partitions(d)) for _ in range(2)] for d in degrees]
+        shape, c = max(found, key=lambda pair: len(hooks(pair[0], min(pair[1]))))
+        cycle, z = min(c) if tries > 1 else r.choice(c), r.choice([1, -1, 1, -1, 2, -3, r.randint(-9, 9)])
+        rest = list(c)
+        rest.remove(cycle)
+        struck_word = line_word(1, shape_word(shape), class_word(c))
+        waiting = {struck_word: z}
+        for minus, left in hooks(shape, cycle):
+            if left and r.randrange(2):
+                own = -z if minus else z
+                waiting[line_word(1, shape_word(left), class_word(rest))] = r.choice([-own, -own, own, 1, -own - 1])
+        for _ in range(r.randint(0, 3)):
+            m = r.randint(1, n)
+            pair = shape_word(r.choice(partitions(m))), class_word(r.choice(partitions(m)))
+            waiting.setdefault(line_word(1, *pair), r.choice([1, -1, 2]))
+        words = r.sample(list(waiting), len(waiting))
+        column = [waiting[word] for word in words]
+        slip = shape_word(r.choice(partitions(n))), class_word(r.choice(partitions(n))), 0, len(words), 0, 1
+        if gathering.sound(slip, words, column):
+            break
+    size, span = room_left(slip, words, column)
+    slip = *slip[:2], r.choice([0, size, -size, r.randint(-size, size)]), len(words), r.choice([0, span]), 1
+    room = len(words) + r.choice([0, 0, 1, 2])
+    return slip, resized(words, room), resized(column, room), words.index(struck_word), cycle
+
+
+def spoilt_gathered(r, slip, page, column):
+    """A slip, a page and a column with one thing changed, sound or not."""
+    s, c, settled, lines, steps, mode = slip
+    n, page, column, i = sum(shape_of(s)), list(page), list(column), r.randrange(max(1, lines))
+    (size, span), way = room_left(slip, page, column), r.randrange(17)
+    t, u = divmod(page[i], 2**32)
+    if way == 0:
+        mode = r.choice([0, 0, 2, 2**32 - 1])
+    elif way == 1:
+        settled = r.choice([1, -1]) * (size + r.randint(-1, 1))
+    elif way == 2:
+        steps = r.choice([-1, span, span + 1])
+    elif way == 3:
+        lines = max(0, lines + r.choice([1, -1]))
+    elif way == 4:
+        page[i] ^= 1 << r.choice([63, 63, 62, r.randrange(64)])
+    elif way == 5:
+        page[i] = line_word(1, in_front(t, r.randint(1, 14)), u)
+    elif way == 6:
+        column[i] = r.choice([0, 0, -column[i], LEAST, MOST, LEAST + 1])
+    elif way in (7, 8):
+        d = sum(shape_of(t))
+        fit = abs(column[i]) + (size - abs(settled)) // factorial(d)
+        column[i] = r.choice([1, -1]) * r.choice([fit, fit + 1])
+    elif way == 9:
+        column[r.randrange(len(column))] = r.choice([0, 1, -1, LEAST])
+    elif way in (10, 16):
+        low = min(range(max(1, lines)), key=lambda place: sum(shape_of(page[place] >> 32)))
+        page[r.choice([place for place in range(lines) if place != low] or [low])] = page[low]
+    elif way == 11:
+        m = r.randint(1, n + 1)
+        page[i] = line_word(1, shape_word(r.choice(partitions(m))), class_word(r.choice(partitions(m))))
+    elif way == 12:
+        s = r.choice([in_front(s, r.randint(1, 14)), shape_word(r.choice(partitions(r.randint(0, n + 1))))])
+    elif way == 13:
+        c = r.choice([c ^ 1 << r.randrange(32), class_word(r.choice(partitions(r.randint(0, n + 1))))])
+    elif way == 14:
+        column = resized(column, len(column) + r.choice([1, -1, -1, 3]))
+    else:
+        page = page[:r.randrange(len(page) + 1)]
+        column = r.choice([column, column[:len(page)]])
+    return (s, c, settled, lines, steps, mode), page, column
+
+
+def some_gathered_away(n, seed):
+    """Gathered slips of degree n and waiting lines that a text can hold: of random sessions, and at random, sound or
+    not."""
+    r = random.Random('%s %s gathered away' % (seed, n))
+    for slip, page, column, _, _ in some_gathered(n, seed):
+        if gathering.session_refusal(slip, page, column) == 0 and r.randrange(4) == 0:
+            yield slip, gathering.waiting_lines(slip, page, column)
+    for slip, lines in some_put_away(n, seed):
+        weights = [r.choice([1, -3, 12, 0, -1, LEAST, MOST, r.randint(-99, 99)]) for _ in lines]
+        if r.randrange(2):
+            yield (*slip[:5], 1), [(z, *words) for z, (_, *words) in zip(weights, lines)]
+
+
+def some_gathered_texts(n, seed):
+    """Their texts, these damaged, and texts of the plain mode."""
+    r = random.Random('%s %s gathered texts' % (seed, n))
+    for slip, lines in some_gathered_away(n, seed):
+        text = put_away(slip, lines)
+        yield text
+        yield from r.sample(list(damaged(r, text)), 3)
+    for slip, lines in list(some_put_away(n, seed))[-2:]:
+        yield put_away(slip, lines)
 
 
 # ---- notions: each yields expressions over the definitions, their values, and how many values that is, if not one
@@ -609,9 +783,7 @@ def watches(n, seed):
         for kind in r.sample(range(7), 3):
             i = r.choice([r.randint(0, max(0, slip[3] - 1)), r.randint(0, slip[3])])
             k, value = watched(slip, page, kind, i)
-            shown = ('none' if value is None else
-                     '(quotient %s)' % float_text(value) if kind == 2 else '(whole %s)' % integer(value))
-            yield call('watch', slip_text(slip), nats(page), nat(kind), nat(i)), 'saw %d %s' % (k, shown)
+            yield call('watch', slip_text(slip), nats(page), nat(kind), nat(i)), value_text(k, value, kind)
 
 
 @notion(each=5, least=LIMIT)
@@ -672,6 +844,231 @@ def loads(n, seed):
                 yield asked, 'taken (loaded %d %d %s) %s' % (k, at_fault, slip_text(left), nats(words))
 
 
+# ---- the gathered mode
+def some_entries(r, n):
+    """Lines with coefficients, some of them equal, and some of 0."""
+    for _ in range(24):
+        words = [(shape_word(r.choice(partitions(n))), class_word(r.choice(partitions(n)))) for _ in range(3)]
+        words += [(words[0][0], words[1][1]), (words[1][0], words[0][1])]
+        weights = [1, -1, 2, -2, 3, r.randint(-99, 99), LEAST, MOST, 0]
+        yield tuple([(r.choice(weights[:r.choice([4, 9])]), *r.choice(words)) for _ in range(r.randint(0, most))]
+                    for most in (5, 5))
+
+
+@notion(each=12, most=6)
+def gathers(n, seed):
+    """Lines, and hook lines that come to them: joined to the earliest, those of 0 out."""
+    r = random.Random('%s %s gathers' % (seed, n))
+    for lines, new in some_entries(r, n):
+        yield 'gather %s %s' % (entries_text(lines), entries_text(new)), entries_text(gathering.gather(lines, new))
+
+
+@notion(most=6)
+def gathered_told(n, seed):
+    """Whether no two lines are equal, and whether no coefficient is 0 besides; whether two lines are equal."""
+    r = random.Random('%s %s gathered told' % (seed, n))
+    for lines, new in some_entries(r, n):
+        for some in (lines, gathering.gather(lines, new), gathering.gather([], new)):
+            differ = len({tuple(words) for _, *words in some}) == len(some)
+            yield 'different ' + entries_text(some), truth(differ)
+            yield 'gathered ' + entries_text(some), truth(differ and all(z for z, *_ in some))
+        for l, m in zip(lines, new):
+            yield 'alike (%s) (%s)' % tuple(entries_text([x])[1:-6] for x in (l, m)), truth(l[1:] == m[1:])
+
+
+@notion(each=12, most=6)
+def coefficients(n, seed):
+    """What the lines equal to one of them weigh together, before and after others come to them."""
+    r = random.Random('%s %s coefficients' % (seed, n))
+    for lines, new in some_entries(r, n):
+        for some in (lines, lines + new, gathering.gather(lines, new)):
+            one = r.choice(lines + new + [(1, 2**29, 2**30)])
+            of = 'coefficient (%s) %s' % (entries_text([one])[1:-6], entries_text(some))
+            yield of, integer(sum(z for z, *words in some if tuple(words) == one[1:]))
+
+
+@notion(each=8, most=8)
+def gathered_sound(n, seed):
+    """Whether a slip, a page and a column are sound, of random sessions, made up ones, and spoilt ones."""
+    for slip, page, column, _, _ in some_gathered(n, seed):
+        if len(page) == len(column):
+            asked = gathered_call('soundIn', slip_text(slip), lent_text(page, column))
+            yield asked, truth(gathering.sound(slip, page, column))
+
+
+@notion(each=8, most=7)
+def gathered_refused(n, seed):
+    """6, 21, 7 of these, of columns of other lengths, and of pages of 4,096 and 4,097 words."""
+    r = random.Random('%s %s gathered refused' % (seed, n))
+    cases = [case[:3] for case in some_gathered(n, seed)]
+    if n == 3:
+        slip = gathering.opened(shape_word((2, 1)), class_word((2, 1)), [7], [7])[1]
+        page, column = [line_word(1, *slip[:2])] + [0] * PAGE, [1] + [0] * 3
+        cases += [((0, 0, 1, 0, 0, 1), [0] * room, [0] * other)
+                  for room in (PAGE, PAGE + 1) for other in (PAGE, PAGE + 1)]
+        cases += [(slip, page[:room], column[:room - 1 + r.choice([0, 1, 2])]) for room in (1, 2, 3)]
+    for slip, page, column in cases:
+        asked = gathered_call('pageChecksIn', slip_text(slip), lent_text(page, column))
+        yield 'firstOf (%s)' % asked, nat(gathering.session_refusal(slip, page, column))
+
+
+@notion(each=8, most=8)
+def gathered_openings(n, seed):
+    """Gathered openings of every shape, at times with ones in front, on some classes, at times of another degree: on
+    pages of 0 to 2 words and columns mostly as long; at degree 0 of words at the borders too, and on long pages."""
+    r = random.Random('%s %s gathered openings' % (seed, n))
+    cases = []
+    for p in partitions(n):
+        s, c = some_in_front(r, shape_word(p)), class_word(r.choice(partitions(r.choice([n, n, n, n + 1]))))
+        room = r.randint(0, 2)
+        cases.append((s, c, room, max(0, room + r.choice([0, 0, 0, 1, -1]))))
+    if n == 0:
+        words = some_words(seed, 60)
+        cases += [(s, r.choice(words), 2, r.choice([2, 3])) for s in words]
+        cases += [(0, 0, room, other) for room in (PAGE, PAGE + 1) for other in (PAGE, PAGE + 1)]
+    for s, c, room, other in cases:
+        page, column = [7] * room, [0 if other >= PAGE else -7] * other
+        asked = gathered_call('openingIn', nat(s), nat(c), lent_text(page, column))
+        yield asked, both_left_text(gathering.opened(s, c, page, column))
+
+
+@notion(each=8, most=8)
+def gathered_previews(n, seed):
+    """Gathered previews, with the hooks' own signs, on strips of all lengths up to two words more than they need."""
+    r = random.Random('%s %s gathered previews' % (seed, n))
+    for slip, page, column, i, cycle in some_gathered(n, seed):
+        need = len(gathering.struck(slip, page, column, i, cycle)[1])
+        strip = [r.getrandbits(64) for _ in range(r.randint(max(0, need - 1), need + 2))]
+        k, count, left = gathering.previewed(slip, page, column, i, cycle, strip)
+        asked = gathered_call('previewIn', slip_text(slip), lent_text(page, column), nat(i), nat(cycle), nats(strip))
+        yield asked, 'counted %d %d %s' % (k, count, nats(left))
+
+
+@notion(each=8, most=8)
+def gathered_commits(n, seed):
+    """Gathered commits: on pages as they are, and just as long as the lines need before and after, or one word less;
+    with the preview's strip, and with one that has the coefficient's sign, no signs, or is otherwise another."""
+    r = random.Random('%s %s gathered commits' % (seed, n))
+    for slip, page, column, i, cycle in some_gathered(n, seed):
+        k, found = gathering.struck(slip, page, column, i, cycle)
+        new = gathering.strip_of(found)
+        cases = [(page, column, new)]
+        if k == 0:
+            need = len(gathering.step_taken(slip, page, column, i, found)[0])
+            for room in {max(slip[3], need), max(slip[3], need - 1)}:
+                cases.append((resized(page, room), resized(column, room), new))
+            turned, bare = [w ^ 2**63 for w in new], [w % 2**63 for w in new]
+            given = turned if column[i] < 0 else bare
+            strips = [given, given, new[:-1], new[::-1], new + [7]]
+            cases.append((page, resized(column, len(page) + r.choice([0, 0, 0, 1, -1])), r.choice(strips)))
+        for some, beside, strip in cases:
+            asked = gathered_call('commitIn', slip_text(slip), lent_text(some, beside), nat(i), nat(cycle), nats(strip))
+            yield asked, both_left_text(gathering.committed(slip, some, beside, i, cycle, strip))
+
+
+@notion(each=4, most=0)
+def gathered_twos(n, seed):
+    """Gathered commits on (2^8), on a page as long as the step needs: some shapes, struck at random to the end."""
+    r = random.Random('%s %s twos' % (seed, n))
+    for shape in ((4, 4, 4, 4), (6, 4, 4, 2), (5, 4, 3, 2, 1, 1), (16,)):
+        k, slip, page, column = gathering.opened(shape_word(shape), class_word((2,) * 8), [7], [7])
+        while slip[3]:
+            i = r.choice([0, 0, r.randrange(slip[3])])
+            found = gathering.struck(slip, page, column, i, 2)[1]
+            room = max(slip[3], len(gathering.step_taken(slip, page, column, i, found)[0]))
+            page, column, strip = resized(page, room), resized(column, room), gathering.strip_of(found)
+            asked = gathered_call('commitIn', slip_text(slip), lent_text(page, column), nat(i), '2', nats(strip))
+            answer = gathering.committed(slip, page, column, i, 2, strip)
+            yield asked, both_left_text(answer)
+            k, slip, page, column = answer
+        assert slip[2] == character(shape, (2,) * 8), shape
+
+
+@notion(each=8, most=7)
+def gathered_watches(n, seed):
+    """Gathered watches: every kind, 0 and 6, lines past the end."""
+    r = random.Random('%s %s gathered watches' % (seed, n))
+    for slip, page, column, i, _ in some_gathered(n, seed):
+        for kind in {r.choice([1, 2, 4]), r.randrange(7)}:
+            i = r.choice([i, i, r.randint(0, slip[3])])
+            k, value = gathering.watched(slip, page, column, kind, i)
+            asked = gathered_call('watchIn', slip_text(slip), lent_text(page, column), nat(kind), nat(i))
+            yield asked, value_text(k, value, kind)
+
+
+@notion(each=5, most=7)
+def gathered_written(n, seed):
+    """The texts of gathered slips and waiting lines, byte by byte."""
+    for slip, lines in some_gathered_away(n, seed):
+        asked = 'sessionTextBy gatheredForm %s %s' % (slip_text(slip), entries_text(lines))
+        yield asked, bytes_text(put_away(slip, lines))
+
+
+@notion(each=10, most=7)
+def gathered_faults(n, seed):
+    """The first lines at fault of such texts, of damaged ones, and of plain ones; and of some by the plain mode."""
+    for place, text in enumerate(some_gathered_texts(n, seed)):
+        yield gathered_call('faultBy', bytes_text(text)), nat(taken_up(text, 1)[0])
+        if place % 8 == 0:
+            yield call('fault', bytes_text(text)), nat(taken_up(text)[0])
+
+
+@notion(each=20, most=0)
+def gathered_by_rules(n, seed):
+    """The first lines at fault as the issue of P7 has them, rule by rule."""
+    for text, k in gathered_by_hand():
+        assert k == taken_up(text, 1)[0], text
+        yield gathered_call('faultBy', bytes_text(text)), nat(k)
+
+
+@notion(each=5, most=7)
+def gathered_read(n, seed):
+    """The slip and the waiting lines of those that have no fault."""
+    for text in [*some_gathered_texts(n, seed), *(text for text, _ in gathered_by_hand() if n == 0)]:
+        at_fault, slip, lines = taken_up(text, 1)
+        if not at_fault:
+            asked = 'put (slipBy gatheredForm %s) (linesBy gatheredForm %s)' % (bytes_text(text), bytes_text(text))
+            yield asked, 'put %s %s' % (slip_text(slip), entries_text(lines)), 2
+
+
+@notion(each=4, most=7)
+def gathered_saves(n, seed):
+    """Gathered saves: into too few bytes, just enough, and more."""
+    r = random.Random('%s %s gathered saves' % (seed, n))
+    for slip, page, column, _, _ in some_gathered(n, seed):
+        if r.randrange(4) == 0:
+            out = [7] * max(0, gathering.saved(slip, page, column, [7] * 999)[1] + r.choice([-1, 0, 0, 3]))
+            k, length, left = gathering.saved(slip, page, column, out)
+            asked = gathered_call('saveBy', slip_text(slip), lent_text(page, column), nats(out))
+            yield asked, 'counted %d %d %s' % (k, length, nats(left))
+
+
+@notion(each=4, most=7)
+def gathered_loads(n, seed):
+    """Gathered loads of texts, of damaged ones, and of such as have no sound lines: onto pages too short, just long
+    enough, longer; columns mostly as long; 4,096 and 4,097 words."""
+    r = random.Random('%s %s gathered loads' % (seed, n))
+    cases = []
+    for slip, lines in some_gathered_away(n, seed):
+        good = put_away(slip, lines)
+        for text in (good, r.choice(list(damaged(r, good)))):
+            room = max(0, len(lines) + r.choice([-1, 0, 0, 2]))
+            cases.append((text, room, max(0, room + r.choice([0] * 10 + [1, -1]))))
+        if lines and n:
+            twice = put_away((*slip[:3], 2, *slip[4:]), [lines[0]] * 2)
+            none = put_away((*slip[:3], 1, *slip[4:]), [(0, *lines[0][1:])])
+            cases.append((r.choice([twice, none]), 2, 2))
+    if n == 0:
+        none = put_away((0, 0, 1, 0, 0, 1), [])
+        cases += [(none, room, other) for room in (PAGE, PAGE + 1) for other in (PAGE, PAGE + 1)]
+        cases += [(put_away((0, 0, 1, 0, 0, 0), []), 1, 1), (none, 1, 1), (none, 0, 0), (none, 0, 1)]
+    for text, room, other in cases:
+        page, column = [7] * room, [0 if other >= PAGE else -7] * other
+        k, at_fault, left, words, weights = gathering.loaded(text, page, column)
+        asked = gathered_call('loadBy', bytes_text(text), lent_text(page, column))
+        yield asked, 'resumed (loaded %d %d %s) %s' % (k, at_fault, slip_text(left), lent_text(words, weights))
+
+
 # ---- the writing
 CONSTRUCTORS = {
     'Rattle.theory.specs.Basics': 'Bool true false List [] _∷_ _++_ replicate getD ℕ ℤ pos negsuc'.split(),
@@ -689,7 +1086,8 @@ CONSTRUCTORS = {
 }
 LIBRARY = ['div', 'ofInt']  # definitions of lib.Ieee that have to be unfolded
 PASSED_OVER = ['Lib.antt', 'Private.antt', 'Examples.antt', 'Run.antt']
-HIDDEN = [('text', 'step')]  # asked by no notion, and named as a call is
+HIDDEN = [  # asked by no notion, and named as something else is
+    ('text', 'step'), ('theory', 'joined'), ('theory', 'different'), ('pages', 'left')]
 OWN = """
 abbrev hook : Bool → ℕ → Hook ℕ
 hook minus left = record { minus = minus; leaves = left }
@@ -714,6 +1112,18 @@ put slip lines = (slip, lines)
 
 abbrev taken : Loaded → List ℕ → Loaded × List ℕ
 taken answer page = (answer, page)
+
+abbrev bearing : ℤ → ℕ → ℕ → Line
+bearing z s c = record { weight = z; shape = s; class = c }
+
+abbrev lent : List ℕ → List ℤ → List ℕ × List ℤ
+lent page column = (page, column)
+
+abbrev left : ℕ → Slip → List ℕ × List ℤ → Handed × (List ℕ × List ℤ)
+left k slip x = (handed k slip, x)
+
+abbrev resumed : Loaded → List ℕ × List ℤ → Loaded × (List ℕ × List ℤ)
+resumed answer x = (answer, x)
 """
 
 

@@ -9,7 +9,7 @@
 #include "zembrusha.h"
 
 /* The most characters of a line of input, and the most words after the first that are told apart. */
-enum { LONGEST_LINE = 1000, MOST_WORDS = 3 };
+enum { LONGEST_LINE = 1000, MOST_WORDS = 4 };
 
 /* What came of reading a line. */
 enum input { LINE_READ, LINE_BROKEN, INPUT_ENDED };

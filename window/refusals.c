@@ -3,7 +3,6 @@
 #include <stdio.h>
 
 #include "refusals.h"
-#include "zembrusha.h"
 
 /* The words of each refusal number. */
 static const char *const REFUSALS[] = {
@@ -28,20 +27,28 @@ static const char *const REFUSALS[] = {
     [ZEMBRUSHA_STRIP_TOO_SHORT] = "the strip is too short",
     [ZEMBRUSHA_NOT_THAT_PREVIEW] = "the strip is not that preview",
     [ZEMBRUSHA_BAD_LENGTHS] = "the lists have unequal lengths, or more than 4096 words",
+    [ZEMBRUSHA_BAD_COEFFICIENTS] = "the coefficient column is not as long as the page",
 };
 
-/* What each line of a session's text has to be; the last stands for all that follow. */
+/* What each line of a session's text has to be, the first in the gathered mode only; the waiting lines follow. */
 static const char *const TEXT_LINES[] = {
+    "mode=gathered",
     "degree= and the shape's degree, without needless zeros",
     "shape= and a partition of at most 16, as shape=3,2",
     "class= and a partition of at most 16, as class=3,2",
     "steps= and a number below 2^63, without needless zeros",
     "settled= and a number of 64 bits, without needless zeros and with a minus only where it is negative",
     "lines= and the number of all lines after it, without needless zeros",
-    "line=, sign, and shape and class, partitions of at most 16, as line=-;1,1;2",
 };
 
 enum { TEXT_LINE_COUNT = sizeof TEXT_LINES / sizeof TEXT_LINES[0] };
+
+/* And what each waiting line has to be, by the mode. */
+static const char *const WAITING_LINES[] = {
+    [ZEMBRUSHA_PLAIN] = "line=, sign, and shape and class, partitions of at most 16, as line=-;1,1;2",
+    [ZEMBRUSHA_GATHERED] = "line=, coefficient, a number of 64 bits as settled is, and shape and class, partitions of "
+                           "at most 16, as line=-3;1,1;2",
+};
 
 /* The number of the refusal, and its words. */
 void refuse(uint32_t refused)
@@ -55,10 +62,11 @@ void refuse_input(const char *form)
     printf("refused %d: %s (%s)\n", ZEMBRUSHA_BAD_INPUT, REFUSALS[ZEMBRUSHA_BAD_INPUT], form);
 }
 
-/* Refuses a session's text for its line of this number, from 1, and says what that line should be. */
-void refuse_text(uint64_t line)
+/* Refuses a session's text for its line of this number, from 1, and says what that line should be in this mode. */
+void refuse_text(enum zembrusha_mode mode, uint64_t line)
 {
-    const char *form = TEXT_LINES[(line < TEXT_LINE_COUNT ? line : TEXT_LINE_COUNT) - 1];
+    uint64_t at = mode == ZEMBRUSHA_GATHERED ? line - 1 : line;
+    const char *form = at < TEXT_LINE_COUNT ? TEXT_LINES[at] : WAITING_LINES[mode];
     printf("refused %d: %s: line %" PRIu64 " is not %s, and a newline\n", ZEMBRUSHA_BAD_TEXT,
            REFUSALS[ZEMBRUSHA_BAD_TEXT], line, form);
 }

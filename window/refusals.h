@@ -4,13 +4,15 @@
 
 #include <stdint.h>
 
+#include "zembrusha.h"
+
 /* Says that something is refused, by the number of zembrusha.h and in words. */
 void refuse(uint32_t refused);
 
 /* Refuses input that is not of its form, and says what form it should have. */
 void refuse_input(const char *form);
 
-/* Refuses a session's text for its line of this number, from 1, and says what that line should be. */
-void refuse_text(uint64_t line);
+/* Refuses a session's text for its line of this number, from 1, and says what that line should be in this mode. */
+void refuse_text(enum zembrusha_mode mode, uint64_t line);
 
 #endif

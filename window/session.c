@@ -3,20 +3,21 @@
 #include <inttypes.h>
 #include <stdio.h>
 
+#include "modes.h"
 #include "partitions.h"
 #include "refusals.h"
 #include "session.h"
 
-/* What a watch of a whole number shows. */
-static int64_t watch(const struct session *session, enum zembrusha_kind kind, uint64_t line)
+/* Whether the lines have coefficients. */
+static bool gathered(const struct session *session)
 {
-    return zembrusha_watch_whole(session->slip, session->page, ZEMBRUSHA_PAGE_LIMIT, kind, line);
+    return session->slip.mode == ZEMBRUSHA_GATHERED;
 }
 
 /* Settled plus the sum of all signed waiting characters. */
 static int64_t settled_plus_waiting(const struct session *session)
 {
-    return watch(session, ZEMBRUSHA_SETTLED, 0) + watch(session, ZEMBRUSHA_WAITING, 0);
+    return call_watch_whole(session, ZEMBRUSHA_SETTLED, 0) + call_watch_whole(session, ZEMBRUSHA_WAITING, 0);
 }
 
 /* Keeps how the session begins and its slip, and settled plus waiting, which no strike may change. */
@@ -29,9 +30,9 @@ static void begin_session(struct session *session, const char *beginning, struct
 }
 
 /* Keeps what the library hands back. */
-void open_session(struct session *session, uint32_t shape, uint32_t class)
+void open_session(struct session *session, enum zembrusha_mode mode, uint32_t shape, uint32_t class)
 {
-    struct zembrusha_handed handed = zembrusha_open(shape, class, session->page, ZEMBRUSHA_PAGE_LIMIT);
+    struct zembrusha_handed handed = call_open(session, mode, shape, class);
     if (handed.refused != 0) {
         refuse(handed.refused);
         return;
@@ -49,19 +50,11 @@ void take_up_session(struct session *session, struct zembrusha_slip slip)
     }
 }
 
-/* Puts what would come of a strike on a strip, which has room for it; gives the count, or why it is refused. */
-static struct zembrusha_number preview(const struct session *session, uint64_t line, uint64_t cycle, uint64_t *strip)
-{
-    return zembrusha_preview(
-        session->slip, session->page, ZEMBRUSHA_PAGE_LIMIT, line, cycle, strip, ZEMBRUSHA_STRIP_ROOM);
-}
-
 /* Commits what was previewed, and keeps what the library hands back: where it refuses, the slip that was given. Gives
  * why it is refused, or 0. */
 static uint32_t commit(struct session *session, uint64_t line, uint64_t cycle, const uint64_t *strip)
 {
-    struct zembrusha_handed handed = zembrusha_commit(
-        session->slip, session->page, ZEMBRUSHA_PAGE_LIMIT, line, cycle, strip, ZEMBRUSHA_STRIP_ROOM);
+    struct zembrusha_handed handed = call_commit(session, line, cycle, strip);
     session->slip = handed.slip;
     return handed.refused;
 }
@@ -70,7 +63,7 @@ static uint32_t commit(struct session *session, uint64_t line, uint64_t cycle, c
 void strike_cycle(struct session *session, uint64_t line, uint64_t cycle)
 {
     uint64_t strip[ZEMBRUSHA_STRIP_ROOM] = {0};
-    uint32_t refused = preview(session, line, cycle, strip).refused;
+    uint32_t refused = call_preview(session, line, cycle, strip).refused;
     if (refused == 0) {
         refused = commit(session, line, cycle, strip);
     }
@@ -79,12 +72,18 @@ void strike_cycle(struct session *session, uint64_t line, uint64_t cycle)
     }
 }
 
-/* The sign, the shape and the class that a word of a page or a strip has. */
+/* The shape and the class that a word of a page or a strip has. */
+static void show_pair(uint64_t word)
+{
+    struct shown shape = shape_text((uint32_t)(word >> 32) & 0x7FFFFFFF);
+    printf("%s on %s", shape.text, class_text((uint32_t)word).text);
+}
+
+/* These and the sign before them. */
 static void show_word(uint64_t word)
 {
-    char sign = word >> 63 == 1 ? '-' : '+';
-    struct shown shape = shape_text((uint32_t)(word >> 32) & 0x7FFFFFFF);
-    printf("%c %s on %s", sign, shape.text, class_text((uint32_t)word).text);
+    printf("%c ", word >> 63 == 1 ? '-' : '+');
+    show_pair(word);
 }
 
 /* What a strike would add to settled. No call tells it, so the commit is made on a copy of the session: the number is
@@ -101,19 +100,42 @@ static void show_settling(const struct session *session, uint64_t line, uint64_t
     }
 }
 
+/* The waiting line that a hook is joined to, where there is one. */
+static void show_joined(const struct session *session, uint64_t hook)
+{
+    for (uint64_t line = 0; line < session->slip.lines; line++) {
+        if (session->page[line] == (hook & INT64_MAX)) {
+            printf(", to line %" PRIu64, line);
+        }
+    }
+}
+
+/* What a hook would bring: a line with its sign; or in a gathered session what it leaves, with its own sign, as many
+ * times as the struck line's coefficient says. */
+static void show_hook(const struct session *session, uint64_t line, uint64_t hook)
+{
+    if (gathered(session)) {
+        printf("would come, times %" PRId64 ": ", session->coefficients[line]);
+        show_word(hook);
+        show_joined(session, hook);
+    } else {
+        printf("would come: ");
+        show_word(hook);
+    }
+    printf("\n");
+}
+
 /* The lines in the order of the hooks, and below them what would be settled. */
 void preview_cycle(const struct session *session, uint64_t line, uint64_t cycle)
 {
     uint64_t strip[ZEMBRUSHA_STRIP_ROOM] = {0};
-    struct zembrusha_number previewed = preview(session, line, cycle, strip);
+    struct zembrusha_number previewed = call_preview(session, line, cycle, strip);
     if (previewed.refused != 0) {
         refuse(previewed.refused);
         return;
     }
     for (uint64_t i = 0; i < previewed.number; i++) {
-        printf("would come: ");
-        show_word(strip[i]);
-        printf("\n");
+        show_hook(session, line, strip[i]);
     }
     if (previewed.number == 0) {
         printf("no line would come\n");
@@ -142,18 +164,29 @@ static void show_cycles(const struct partition *cycles)
     }
 }
 
-/* A waiting line: number, sign, shape, class, cycles; where it is watched, its signed character and its ratio. */
+/* What a line's watches show: its character with its sign or times its coefficient, and its ratio. */
+static void show_watches(const struct session *session, uint64_t line)
+{
+    const char *name = gathered(session) ? "coefficient times character" : "signed character";
+    int64_t character = call_watch_whole(session, ZEMBRUSHA_LINE_CHARACTER, line);
+    printf(", %s %" PRId64 ", ratio %g", name, character, call_watch_ratio(session, line));
+}
+
+/* A waiting line: number, sign or coefficient, shape, class, cycles; where it is watched, what its watches show. */
 static void show_line(const struct session *session, uint64_t line, bool watched)
 {
     struct partition cycles = class_partition((uint32_t)session->page[line]);
     printf("line %" PRIu64 ": ", line);
-    show_word(session->page[line]);
+    if (gathered(session)) {
+        printf("%" PRId64 " ", session->coefficients[line]);
+        show_pair(session->page[line]);
+    } else {
+        show_word(session->page[line]);
+    }
     printf(", ");
     show_cycles(&cycles);
     if (watched) {
-        double ratio =
-            zembrusha_watch_ratio(session->slip, session->page, ZEMBRUSHA_PAGE_LIMIT, ZEMBRUSHA_LINE_RATIO, line);
-        printf(", signed character %" PRId64 ", ratio %g", watch(session, ZEMBRUSHA_LINE_CHARACTER, line), ratio);
+        show_watches(session, line);
     }
     printf("\n");
 }
@@ -162,7 +195,7 @@ static void show_line(const struct session *session, uint64_t line, bool watched
 static void show_sums(const struct session *session)
 {
     int64_t sum = settled_plus_waiting(session);
-    printf("sum of the waiting lines: %" PRId64 "\n", watch(session, ZEMBRUSHA_WAITING, 0));
+    printf("sum of the waiting lines: %" PRId64 "\n", call_watch_whole(session, ZEMBRUSHA_WAITING, 0));
     printf("settled plus waiting: %" PRId64 ", ", sum);
     if (sum == session->sum) {
         printf("unchanged since the %s\n", session->beginning);
@@ -174,8 +207,7 @@ static void show_sums(const struct session *session)
 /* Whether the session may be watched; where it is refused, it says so. */
 static bool may_watch(const struct session *session)
 {
-    uint32_t refused =
-        zembrusha_watch_refusal(session->slip, session->page, ZEMBRUSHA_PAGE_LIMIT, ZEMBRUSHA_WAITING, 0);
+    uint32_t refused = call_watch_refusal(session, ZEMBRUSHA_WAITING, 0);
     if (refused != 0) {
         refuse(refused);
     }
@@ -203,7 +235,8 @@ void show_session(const struct session *session, bool wanted)
     bool watched = wanted && may_watch(session);
     const struct zembrusha_slip *slip = &session->slip;
     int64_t bound = most_steps(zembrusha_degree(slip->shape));
-    printf("%s on %s: ", shape_text(slip->shape).text, class_text(slip->class_word).text);
+    const char *mode = gathered(session) ? ", gathered" : "";
+    printf("%s on %s%s: ", shape_text(slip->shape).text, class_text(slip->class_word).text, mode);
     printf("settled %" PRId64 ", steps %" PRId64 " of at most %" PRId64 "\n", slip->settled, slip->steps, bound);
     for (uint64_t line = 0; line < slip->lines; line++) {
         show_line(session, line, watched);

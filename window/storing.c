@@ -2,8 +2,10 @@
 #include <inttypes.h>
 #include <stdio.h>
 #include <stdlib.h>
+#include <string.h>
 
 #include "files.h"
+#include "modes.h"
 #include "refusals.h"
 #include "storing.h"
 
@@ -23,16 +25,15 @@ static void say(const char *what, const char *name, const char *fault)
     printf("%s%s\n", fault == NULL ? "" : ": ", fault == NULL ? "" : fault);
 }
 
-/* The room is enough for every session, so that a save has no length to ask for. */
+/* The room is enough for every session of either mode, so that a save has no length to ask for. */
 void save_session(const struct session *session, const char *name)
 {
-    static uint8_t text[ZEMBRUSHA_TEXT_ROOM];
+    static uint8_t text[ZEMBRUSHA_GATHERED_TEXT_ROOM];
     if (session->beginning == NULL) {
         say("not saved:", name, "nothing is open");
         return;
     }
-    struct zembrusha_number saved =
-        zembrusha_save(session->slip, session->page, ZEMBRUSHA_PAGE_LIMIT, text, ZEMBRUSHA_TEXT_ROOM);
+    struct zembrusha_number saved = call_save(session, text, sizeof text);
     if (saved.refused != 0) {
         refuse(saved.refused);
         return;
@@ -41,12 +42,22 @@ void save_session(const struct session *session, const char *name)
     say(fault == NULL ? "saved" : "not saved:", name, fault);
 }
 
-/* Takes up what a text says; the library leaves the page as it was where it refuses. */
+/* The mode of a text: its first line says it where it is not the plain one. */
+static enum zembrusha_mode text_mode(const struct contents *text)
+{
+    static const char said[] = "mode=";
+    size_t length = sizeof said - 1;
+    bool is_said = text->length >= length && memcmp(text->bytes, said, length) == 0;
+    return is_said ? ZEMBRUSHA_GATHERED : ZEMBRUSHA_PLAIN;
+}
+
+/* Takes up what a text says; the library leaves page and coefficients as they were where it refuses. */
 static void load_text(struct session *session, const struct contents *text, const char *name)
 {
-    struct zembrusha_loaded loaded = zembrusha_load(text->bytes, text->length, session->page, ZEMBRUSHA_PAGE_LIMIT);
+    enum zembrusha_mode mode = text_mode(text);
+    struct zembrusha_loaded loaded = call_load(session, mode, text->bytes, text->length);
     if (loaded.refused == ZEMBRUSHA_BAD_TEXT) {
-        refuse_text(loaded.line);
+        refuse_text(mode, loaded.line);
     } else if (loaded.refused != 0) {
         refuse(loaded.refused);
     } else {

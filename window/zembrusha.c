@@ -25,11 +25,12 @@ enum after { SHOW_NOTHING, SHOW_SESSION, SHOW_WATCHED, QUIT };
 /* What follows a command's name is so many words, or this, the rest of the line, blanks inside included. */
 enum { REST_OF_LINE = MOST_WORDS };
 
-/* A command: its name, what follows, what it does, if anything, and what is done then; how it is written, and what it
- * is for. */
+/* A command: its name, what follows, how many words more may follow, what it does, if anything, and what is done then;
+ * how it is written, and what it is for. A word that may follow and does not is NULL. */
 struct command {
     const char *name;
     size_t arguments;
+    size_t more;
     void (*run)(struct session *session, char **arguments);
     enum after after;
     const char *form;
@@ -38,13 +39,20 @@ struct command {
 
 /* ---- The commands. */
 
-/* Opens a session, where both partitions are read. */
+/* How open is written, and the word for its mode. */
+static const char OPEN_FORM[] = "open SHAPE CLASS [gathered]";
+static const char GATHERED[] = "gathered";
+
+/* Opens a session, where the mode and both partitions are read. */
 static void run_open(struct session *session, char **arguments)
 {
     uint32_t shape = 0;
     uint32_t class = 0;
-    if (read_shape(arguments[0], &shape) && read_class(arguments[1], &class)) {
-        open_session(session, shape, class);
+    enum zembrusha_mode mode = arguments[2] == NULL ? ZEMBRUSHA_PLAIN : ZEMBRUSHA_GATHERED;
+    if (mode == ZEMBRUSHA_GATHERED && strcmp(arguments[2], GATHERED) != 0) {
+        refuse_input(OPEN_FORM);
+    } else if (read_shape(arguments[0], &shape) && read_class(arguments[1], &class)) {
+        open_session(session, mode, shape, class);
     }
 }
 
@@ -120,17 +128,21 @@ static void run_help(struct session *session, char **arguments);
 
 /* All commands, in the order in which help shows them. */
 static const struct command COMMANDS[] = {
-    {"open", 2, run_open, SHOW_SESSION, "open SHAPE CLASS", "opens a session, as open 3,2 3,2"},
-    {"preview", 2, run_preview, SHOW_SESSION, "preview LINE CYCLE", "shows what a strike would bring, as preview 0 3"},
-    {"strike", 2, run_strike, SHOW_SESSION, "strike LINE CYCLE", "strikes a cycle from a waiting line, as strike 0 3"},
-    {"lines", 0, NULL, SHOW_SESSION, "lines", "shows the session and its waiting lines"},
-    {"watch", 0, NULL, SHOW_WATCHED, "watch", "shows them with signed characters, ratios and sums"},
-    {"save", REST_OF_LINE, run_save, SHOW_SESSION, "save FILE", "puts the session away in a file, as save friday.txt"},
-    {"load", REST_OF_LINE, run_load, SHOW_SESSION, "load FILE", "takes it up again, in the place of this one"},
-    {"character", 2, run_character, SHOW_SESSION, "character SHAPE CLASS", "shows one character, as character 3,2 5"},
-    {"table", 1, run_table, SHOW_SESSION, "table N", "shows the character table of degree N, a row to a class"},
-    {"help", 0, run_help, SHOW_SESSION, "help", "shows this"},
-    {"quit", 0, NULL, QUIT, "quit", "ends"},
+    {"open", 2, 1, run_open, SHOW_SESSION, OPEN_FORM, "opens a session, as open 3,2 3,2"},
+    {"preview", 2, 0, run_preview, SHOW_SESSION, "preview LINE CYCLE",
+     "shows what a strike would bring, as preview 0 3"},
+    {"strike", 2, 0, run_strike, SHOW_SESSION, "strike LINE CYCLE",
+     "strikes a cycle from a waiting line, as strike 0 3"},
+    {"lines", 0, 0, NULL, SHOW_SESSION, "lines", "shows the session and its waiting lines"},
+    {"watch", 0, 0, NULL, SHOW_WATCHED, "watch", "shows them with signed characters, ratios and sums"},
+    {"save", REST_OF_LINE, 0, run_save, SHOW_SESSION, "save FILE",
+     "puts the session away in a file, as save friday.txt"},
+    {"load", REST_OF_LINE, 0, run_load, SHOW_SESSION, "load FILE", "takes it up again, in the place of this one"},
+    {"character", 2, 0, run_character, SHOW_SESSION, "character SHAPE CLASS",
+     "shows one character, as character 3,2 5"},
+    {"table", 1, 0, run_table, SHOW_SESSION, "table N", "shows the character table of degree N, a row to a class"},
+    {"help", 0, 0, run_help, SHOW_SESSION, "help", "shows this"},
+    {"quit", 0, 0, NULL, QUIT, "quit", "ends"},
 };
 
 enum { COMMAND_COUNT = sizeof COMMANDS / sizeof COMMANDS[0] };
@@ -141,12 +153,14 @@ static void run_help(struct session *session, char **arguments)
     (void)session;
     (void)arguments;
     for (size_t i = 0; i < COMMAND_COUNT; i++) {
-        printf("%-23s%s\n", COMMANDS[i].form, COMMANDS[i].purpose);
+        printf("%-29s%s\n", COMMANDS[i].form, COMMANDS[i].purpose);
     }
     printf("SHAPE and CLASS are parts, longest first, or words, as 0x2C000000; the empty partition is 0x0.\n");
     printf("SHAPE words may have ones in front, as 0x56000000; these are dropped, which leaves 0x2C000000.\n");
+    printf("With gathered, equal lines are joined to one with a coefficient, as open 2,2,2,2 2,2,2,2 gathered.\n");
     printf("LINE is the number of a waiting line, from 0; CYCLE is one of the numbers shown after strike.\n");
     printf("FILE is the rest of the line, blanks inside it included.\n");
+    printf("FILE's first line says the mode: where it is mode=gathered, a gathered session is taken up.\n");
 }
 
 /* The command of a name; NULL where there is none. */
@@ -169,13 +183,14 @@ static bool cut_arguments(const struct command *command, char *rest, char *argum
         arguments[0] = rest;
         return *rest != '\0';
     }
-    return cut_words(rest, arguments) == command->arguments;
+    size_t count = cut_words(rest, arguments);
+    return command->arguments <= count && count <= command->arguments + command->more;
 }
 
 /* Runs the command that a line has. */
 static enum after run_line(struct session *session, char *line)
 {
-    char *arguments[MOST_WORDS];
+    char *arguments[MOST_WORDS] = {NULL};
     char *rest = cut_first(&line);
     if (*line == '\0') {
         return SHOW_NOTHING;

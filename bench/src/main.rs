@@ -1,5 +1,7 @@
 // Times of the library beside its peers, in one run on one machine. `bench/run` builds and starts it.
 mod characters;
+mod gathered;
+mod gathering;
 mod library;
 mod lists;
 mod pages;
@@ -10,6 +12,7 @@ mod storing;
 mod strikes;
 mod text;
 mod twin;
+mod widest;
 
 use std::process::Command;
 use std::time::Instant;
@@ -108,5 +111,7 @@ fn main() {
     periods::times(|runs, work| best(runs, work), &words);
     lists::times(|runs, work| best(runs, work), &all);
     sessions::times(|runs, work| best(runs, work));
+    gathered::times(|runs, work| best(runs, work));
     storing::times(|runs, work| best(runs, work));
+    widest::table();
 }

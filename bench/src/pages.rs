@@ -1,10 +1,16 @@
 // Full pages and their slip.
 use crate::library::Slip;
-use crate::soundness::PAGE_LIMIT;
+use crate::soundness::{GATHERED, PAGE_LIMIT, PLAIN};
 use crate::{class_word, partitions, shape_word};
+use std::collections::HashSet;
 
 pub fn slip() -> Slip {
-    Slip { shape: shape_word(&[16]), class_word: class_word(&[16]), settled: 0, lines: PAGE_LIMIT as u64, steps: 0 }
+    let (shape, class_word) = (shape_word(&[16]), class_word(&[16]));
+    Slip { shape, class_word, settled: 0, lines: PAGE_LIMIT as u64, steps: 0, mode: PLAIN }
+}
+
+pub fn gathered_slip() -> Slip {
+    Slip { mode: GATHERED, ..slip() }
 }
 
 // Every line is (4,3,1) on (5,2,1).
@@ -21,6 +27,28 @@ pub fn drawn(seed: u64) -> Vec<u64> {
 // The same of the degrees 1 to 12, each as often: they have many more different words.
 pub fn mixed(seed: u64) -> Vec<u64> {
     drawn_of(&[1, 2, 3, 4, 5, 6, 7, 8, 9, 10, 11, 12], seed)
+}
+
+// Different lines of degree 12, with no sign: they have few different words.
+pub fn different(seed: u64) -> Vec<u64> {
+    all_different(&[12], seed)
+}
+
+// The same of the degrees 1 to 12.
+pub fn different_mixed(seed: u64) -> Vec<u64> {
+    all_different(&[1, 2, 3, 4, 5, 6, 7, 8, 9, 10, 11, 12], seed)
+}
+
+// As many pages are drawn as it takes to have a page of different lines.
+fn all_different(degrees: &[u32], seed: u64) -> Vec<u64> {
+    let mut known = HashSet::new();
+    let drawn = (0..).flat_map(|more| drawn_of(degrees, seed + (more << 32))).map(|line| line % (1 << 63));
+    drawn.filter(|&line| known.insert(line)).take(PAGE_LIMIT).collect()
+}
+
+// Coefficients for a full page, from -3 to 3 without 0.
+pub fn coefficients() -> Vec<i64> {
+    (0..PAGE_LIMIT).map(|at| [1, -1, 2, -3, 3, -2, 1][at % 7]).collect()
 }
 
 fn drawn_of(degrees: &[u32], seed: u64) -> Vec<u64> {

@@ -5,13 +5,13 @@ use crate::soundness::{sound, PAGE_LIMIT};
 use crate::strikes::{self, MOST};
 use std::slice::Iter;
 
-const RUNS: usize = 320;
+pub const RUNS: usize = 320;
 
 // So many drawn pages take turns: one or two of them the processor soon knows by heart.
-const DRAWN: u64 = 32;
+pub const DRAWN: u64 = 32;
 
 // The best time of some runs.
-type Best<'a> = &'a dyn Fn(u32, &mut dyn FnMut()) -> f64;
+pub type Best<'a> = &'a dyn Fn(u32, &mut dyn FnMut()) -> f64;
 
 // A strike that leaves one new line, so that a full page stays full.
 struct Strike {
@@ -71,7 +71,7 @@ fn twin_commit(session: &mut Session, strike: &Strike, strip: &[u64]) {
 }
 
 // The best time of a call on sessions that take turns, per line.
-fn in_turn(best: Best, sessions: &mut [Session], call: &dyn Fn(&mut Session)) -> f64 {
+pub fn in_turn<S>(best: Best, sessions: &mut [S], call: &dyn Fn(&mut S)) -> f64 {
     let (mut turn, count) = (0, sessions.len());
     let time = best(RUNS as u32, &mut || {
         call(&mut sessions[turn % count]);

@@ -1,7 +1,12 @@
-// Whether a slip and a page are sound, in plain Rust: the judge of the twins.
+// Whether a slip and a page are sound, in plain Rust: the judge of the plain twins, and what it shares with that of the
+// gathered ones.
 use crate::library::Slip;
 
 pub const PAGE_LIMIT: usize = 4096;
+
+// The modes that a slip says.
+pub const PLAIN: u32 = 0;
+pub const GATHERED: u32 = 1;
 
 const LIMIT: usize = 16;
 
@@ -76,12 +81,35 @@ impl Budget {
 
     // What is left after a line of a shape and a class of these degrees.
     pub fn spend(&mut self, shape: u32, class: u32) -> Option<()> {
+        self.spend_times(shape, class, 1)
+    }
+
+    // The same of a line whose d! counts so many times.
+    pub fn spend_times(&mut self, shape: u32, class: u32, times: u64) -> Option<()> {
         if shape != class || shape == 0 || shape > self.degree {
             return None;
         }
-        self.value = self.value.checked_sub(FACTORIALS[shape as usize])?;
+        self.value = self.value.checked_sub(FACTORIALS[shape as usize].checked_mul(times)?)?;
         self.span = self.span.checked_sub(SPANS[shape as usize])?;
         Some(())
+    }
+}
+
+// The words that were met last, with their degrees.
+pub struct Met {
+    shapes: [u64; PLACES],
+    classes: [u64; PLACES],
+}
+
+impl Met {
+    pub fn new() -> Met {
+        Met { shapes: [0; PLACES], classes: [0; PLACES] }
+    }
+
+    // The degrees of a line's words, its sign left out.
+    pub fn degrees(&mut self, line: u64) -> (u32, u32) {
+        let shape = (line >> 32) as u32 % (1 << 31);
+        (known(shape, &mut self.shapes, shape_degree), known(line as u32, &mut self.classes, class_degree))
     }
 }
 
@@ -96,20 +124,21 @@ fn known(word: u32, places: &mut [u64; PLACES], read: fn(u32) -> Option<u32>) ->
 
 // Whether a budget has enough for the lines.
 fn enough(mut budget: Budget, lines: &[u64]) -> bool {
-    let shape = |line: u64| (line >> 32) as u32 % (1 << 31);
     if lines.len() < MANY {
+        let shape = |line: u64| (line >> 32) as u32 % (1 << 31);
         let degrees = |line: u64| shape_degree(shape(line)).zip(class_degree(line as u32));
         return lines.iter().all(|&line| degrees(line).and_then(|(a, b)| budget.spend(a, b)).is_some());
     }
-    let (mut shapes, mut classes) = ([0; PLACES], [0; PLACES]);
+    let mut met = Met::new();
     lines.iter().all(|&line| {
-        let degree = known(shape(line), &mut shapes, shape_degree);
-        budget.spend(degree, known(line as u32, &mut classes, class_degree)).is_some()
+        let (shape, class) = met.degrees(line);
+        budget.spend(shape, class).is_some()
     })
 }
 
 pub fn sound(slip: &Slip, page: &[u64]) -> bool {
     let Some(budget) = Budget::of(slip) else { return false };
     let lines = slip.lines as usize;
-    lines <= page.len() && enough(budget, &page[..lines]) && page[lines..].iter().all(|&word| word == 0)
+    let fits = slip.mode == PLAIN && lines <= page.len();
+    fits && enough(budget, &page[..lines]) && page[lines..].iter().all(|&word| word == 0)
 }

@@ -9,7 +9,7 @@ pub const MOST: usize = 16;
 pub struct Struck {
     new: [u64; MOST],
     count: usize,
-    settled: i64,
+    pub settled: i64,
 }
 
 impl Struck {

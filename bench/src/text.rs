@@ -1,7 +1,7 @@
 // A session put away as text and taken up again, in plain Rust: the twin of the library's save and load, by the same
 // passes. Nothing is allocated, there is no page but the one lent, and what is refused writes nothing.
 use crate::library::Slip;
-use crate::soundness::{sound, Budget, PAGE_LIMIT};
+use crate::soundness::{sound, Budget, PAGE_LIMIT, PLAIN};
 
 // The bytes that are enough for the first six lines, and for each line after them.
 const HEAD_ROOM: usize = 256;
@@ -260,7 +260,7 @@ impl Reader<'_> {
         let steps = self.key(b"steps=").and_then(|()| i64::try_from(self.number()?).ok()).ok_or(4u64)?;
         let settled = self.key(b"settled=").and_then(|()| self.integer()).ok_or(5u64)?;
         let lines = self.key(b"lines=").and_then(|()| self.number()).ok_or(6u64)?;
-        Ok(Slip { shape, class_word, settled, lines, steps })
+        Ok(Slip { shape, class_word, settled, lines, steps, mode: PLAIN })
     }
 
     fn integer(&mut self) -> Option<i64> {

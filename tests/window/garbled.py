@@ -10,19 +10,20 @@ import tempfile
 
 ANSWERS = re.compile(rb'''refused\ [0-9]+:\ .*
     | nothing\ is\ open
-    | \([0-9,]*\)\ on\ \([0-9,]*\):\ settled\ -?[0-9]+,\ steps\ [0-9]+\ of\ at\ most\ [0-9]+
-    | line\ [0-9]+:\ [-+]\ \([0-9,]+\)\ on\ \([0-9,]+\),\ strike\ .*
+    | \([0-9,]*\)\ on\ \([0-9,]*\)(,\ gathered)?:\ settled\ -?[0-9]+,\ steps\ [0-9]+\ of\ at\ most\ [0-9]+
+    | line\ [0-9]+:\ ([-+]|-?[1-9][0-9]*)\ \([0-9,]+\)\ on\ \([0-9,]+\),\ strike\ .*
     | no\ line\ waits:\ the\ character\ is\ -?[0-9]+
-    | would\ come:\ [-+]\ \([0-9,]+\)\ on\ \([0-9,]+\)
+    | would\ come(,\ times\ -?[1-9][0-9]*)?:\ [-+]\ \([0-9,]+\)\ on\ \([0-9,]+\)(,\ to\ line\ [0-9]+)?
     | no\ line\ would\ come
-    | would\ be\ added\ to\ settled:\ (-1|0|1)
+    | would\ be\ added\ to\ settled:\ -?[0-9]+
     | sum\ of\ the\ waiting\ lines:\ -?[0-9]+
     | settled\ plus\ waiting:\ -?[0-9]+,\ unchanged\ since\ the\ (opening|load)
     | (not\ )?(saved|loaded):?\ .+
     | the\ character\ of\ \([0-9,]*\)\ on\ \([0-9,]*\)\ is\ -?[0-9]+
     | dropped\ (1\ one|([2-9]|[1-3][0-9])\ ones)\ from\ the\ front\ of\ 0x[0-9A-F]{8},\ which\ leaves\ 0x[0-9A-F]{8}
     | (class|\([0-9,]*\))\ .*
-    | (open|preview|strike|lines|watch|save|load|character|table|help|quit|SHAPE|LINE|FILE)\ .*''', re.VERBOSE)
+    | (open|preview|strike|lines|watch|save|load|character|table|help|quit|SHAPE|With|LINE|FILE('s)?)\ .*''',
+                     re.VERBOSE)
 
 # The last command, and its answer: what is read to the end is answered to the end.
 LAST = b'\nopen 1 1\n'
@@ -30,7 +31,7 @@ LAST_ANSWER = b'(1) on (1): settled 0, steps 0 of at most 1\nline 0: + (1) on (1
 
 # How often some answers are met at least.
 LEAST = {b'unchanged': 100, b'refused': 1000, b'\nsaved s\n': 50, b'\nloaded s\n': 50, b'\nwould be added': 20,
-         b'\ndropped 1 one from': 10, b' ones from': 10}
+         b'\ndropped 1 one from': 10, b' ones from': 10, b', gathered: settled': 100, b'\nwould come, times': 5}
 
 PARTITIONS = ['3,2', '2,2,1', '1,1,1,1,1', '4,1', '5', '0x2C000000', '0x14000000', '2,1', '1', '0x0', '6', '3,2,1']
 ONES_IN_FRONT = ['0x56000000', '0x7FFFFFEB']  # of the shape (3,2)
@@ -41,8 +42,9 @@ def command(dice):
     shape, cycles = dice.choice(PARTITIONS + ONES_IN_FRONT), dice.choice(PARTITIONS)
     strike = f'strike {dice.randrange(4)} {dice.randrange(6)}'
     preview = f'preview {dice.randrange(2)} {dice.randrange(4)}'
-    return dice.choice([f'open {shape} {cycles}', strike, strike, strike, preview, preview, 'lines', 'watch', 'save s',
-                        'load s', f'character {shape} {cycles}', f'table {dice.randrange(7)}', 'help'])
+    mode = dice.choice(['', '', ' gathered', ' gathered', ' plain'])
+    return dice.choice([f'open {shape} {cycles}{mode}', strike, strike, strike, preview, preview, 'lines', 'watch',
+                        'save s', 'load s', f'character {shape} {cycles}', f'table {dice.randrange(7)}', 'help'])
 
 
 def line(dice):

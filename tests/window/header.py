@@ -20,12 +20,15 @@ STRUCTS = {
 }
 TYPES = NUMBERS | STRUCTS
 
-# The kinds of watches and the limits of documents 01 and 02, as the header has to name them.
+# How many refusal numbers there are, 0 for none included; and the kinds of watches, the modes and the limits of
+# documents 01 and 02, as the header has to name them.
+REFUSALS = 22
 KINDS = ['LINE_CHARACTER', 'LINE_RATIO', 'SETTLED', 'WAITING', 'STEPS']
 CONSTANTS = {
     'kind': {name: number for number, name in enumerate(KINDS, 1)},
+    'mode': {'PLAIN': 0, 'GATHERED': 1},
     'limit': {'DEGREE_LIMIT': 16, 'PAGE_LIMIT': 4096, 'LIST_LIMIT': 4096, 'LONGEST_COLUMN': 231, 'STRIP_ROOM': 16,
-              'TEXT_ROOM': 256 + 4096 * 72},
+              'TEXT_ROOM': 256 + 4096 * 72, 'GATHERED_TEXT_ROOM': 256 + 4096 * 92},
 }
 
 # What changes a header so that it no longer fits: a pattern and what takes its place, once.
@@ -54,6 +57,16 @@ CHANGES = [
     (r'const uint32_t \*new, size_t count, uint32_t \*old', 'const uint32_t *old, size_t count, uint32_t *new'),
     (r'uint32_t refused;\s*uint64_t index;', 'uint64_t index; uint32_t refused;'),
     (r'uint64_t line;\s*struct zembrusha_slip slip;', 'struct zembrusha_slip slip; uint64_t line;'),
+    (r'int64_t steps;\s*uint32_t mode;', 'uint32_t mode; int64_t steps;'),
+    (r'uint32_t mode;', ''),
+    (r'uint32_t mode;', 'uint64_t mode;'),
+    (r'const int64_t \*coefficients', 'int64_t *coefficients'),
+    (r'size_t words, int64_t \*coefficients, size_t count\);', 'size_t words, int64_t *coefficients);'),
+    (r'size_t words, int64_t \*coefficients', 'size_t words, uint64_t *coefficients'),
+    (r'uint64_t \*page, size_t words, int64_t \*coefficients, size_t count',
+     'int64_t *coefficients, size_t count, uint64_t *page, size_t words'),
+    (r'double zembrusha_gathered_watch_ratio', 'int64_t zembrusha_gathered_watch_ratio'),
+    (r'zembrusha_gathered_commit\(', 'zembrusha_gather_commit('),
 ]
 
 
@@ -167,7 +180,7 @@ def faults(header, archive, rust, rattle):
     if archive_names(archive) != set(ours.functions):
         yield f'archive: {sorted(archive_names(archive) ^ set(ours.functions))} on one side only'
     yield from (f'no comment over {name}' for name in commented(header))
-    if refusals(header) != list(range(21)):
+    if refusals(header) != list(range(REFUSALS)):
         yield f'refusal numbers: {refusals(header)}'
     for kind, named in CONSTANTS.items():
         if constants(header, kind) != named:

@@ -22,24 +22,55 @@ BEGUN = ['open 3,2 3,2', 'strike 0 3']
 TEXT = 'degree=5\nshape=3,2\nclass=3,2\nsteps=1\nsettled=0\nlines=1\nline=-;1,1;2\n'
 OLD = 'what was there before\n'
 
+# The same of a gathered session.
+GATHERED_COMMANDS = ['open 4,2,1 2,2,1,1,1 gathered', 'strike 0 1', 'preview 1 2', 'strike 1 2', 'strike 0 1', 'watch',
+                     'strike 2 1', 'strike 0 1', 'preview 0 1', 'strike 0 2', 'watch']
+GATHERED_BEGUN = ['open 4,4 2,2,2,2 gathered', 'strike 0 2', 'strike 0 2', 'strike 0 2']
+GATHERED_TEXT = ('mode=gathered\ndegree=8\nshape=4,4\nclass=2,2,2,2\nsteps=3\nsettled=0\nlines=3\n'
+                 'line=2;2,2;2,2\nline=-1;3,1;2,2\nline=1;4;2,2\n')
+
 # What each line of a text has to be, as the window says it.
 FORMS = ["degree= and the shape's degree, without needless zeros", 'shape= and a partition of at most 16, as shape=3,2',
          'class= and a partition of at most 16, as class=3,2', 'steps= and a number below 2^63, without needless zeros',
          'settled= and a number of 64 bits, without needless zeros and with a minus only where it is negative',
          'lines= and the number of all lines after it, without needless zeros',
          'line=, sign, and shape and class, partitions of at most 16, as line=-;1,1;2']
+GATHERED_FORMS = ['mode=gathered', *FORMS[:6],
+                  'line=, coefficient, a number of 64 bits as settled is, and shape and class, partitions of at most '
+                  '16, as line=-3;1,1;2']
 
 
-def changed(old, new):
+def changed(old, new, text=TEXT):
     """The text with something changed in one place."""
-    before, after = TEXT.split(old)
+    before, after = text.split(old)
     return before + new + after
+
+
+def gathered(old, new):
+    """The gathered text with something changed in one place."""
+    return changed(old, new, GATHERED_TEXT)
 
 
 def page_of(lines, count=None):
     """A text of degree 16 with so many waiting lines of degree 1."""
     head = 'degree=16\nshape=16\nclass=16\nsteps=0\nsettled=0\nlines=%d\n' % (lines if count is None else count)
     return head + 'line=+;1;1\n' * lines
+
+
+def partitions(degree, most):
+    """The partitions of a degree into parts of at most `most`, as they are written, longest part first."""
+    if degree == 0:
+        return ['']
+    return [f'{part},{rest}'.rstrip(',') for part in range(min(degree, most), 0, -1)
+            for rest in partitions(degree - part, part)]
+
+
+def gathered_page():
+    """A gathered text of 4,096 lines: all shapes on all classes of degree 10, and some of degree 11."""
+    lines = [f'line=2;{shape};{cycles}\n' for degree in (10, 11) for shape in partitions(degree, degree)
+             for cycles in partitions(degree, degree)]
+    head = 'mode=gathered\ndegree=16\nshape=16\nclass=16\nsteps=0\nsettled=0\nlines=4096\n'
+    return head + ''.join(lines[:4096]), lines
 
 
 # Texts that are refused: by 16 at this line, or by 10 or 7.
@@ -54,9 +85,18 @@ BAD_TEXTS = {
     7: [changed('line=-', 'line='), changed(';2\n', ';2'), changed(';1,1', ';1, 1')],
     8: [TEXT.replace('lines=1', 'lines=2') + 'line=-;1,1;2'],
 }
+BAD_GATHERED = {
+    1: ['mode=', 'mode=gathered', gathered('mode=gathered', 'mode=plain'), GATHERED_TEXT.replace('\n', '\r\n')],
+    2: ['mode=gathered\n', gathered('degree=8', 'degree=7'), 'mode=gathered\n' + GATHERED_TEXT],
+    7: [gathered('lines=3', 'lines=4'), GATHERED_TEXT + '\n'],
+    8: [gathered('line=2;', 'line=+2;'), gathered('line=2;', 'line=+;'), gathered('line=2;', 'line=02;')],
+    9: [gathered('line=-1', 'line=-0'), gathered('line=-1', 'line=9223372036854775808')],
+    10: [GATHERED_TEXT[:-1]],
+}
 TOO_MANY = [page_of(4097), page_of(200_000)]
 NOT_SOUND = [changed('line=-;1,1;2', 'line=+;;'), changed('settled=0', 'settled=120'), changed('steps=1', 'steps=207'),
-             changed('class=3,2', 'class=3,1'), changed(';2\n', ';3\n')]
+             changed('class=3,2', 'class=3,1'), changed(';2\n', ';3\n'), gathered('line=2;', 'line=0;'),
+             gathered('line=2;', 'line=-9223372036854775808;'), gathered(';3,1;', ';2,2;')]
 
 # The calls that fail in a save and in a load, and how.
 SAVE_FAILURES = {'malloc': errno.ENOMEM, 'realpath': errno.EIO, 'mkstemp': errno.ENOSPC, 'write': errno.ENOSPC,
@@ -142,15 +182,16 @@ def same(answer, expected, what):
 
 def take_up(desk):
     """A session that is put away anywhere and taken up by another run goes on as the one that was not."""
-    for cut in range(1, len(COMMANDS)):
-        begun, left = COMMANDS[:cut], COMMANDS[cut:]
+    for commands, cut in [(both, at) for both in (COMMANDS, GATHERED_COMMANDS) for at in range(1, len(both))]:
+        begun, left = commands[:cut], commands[cut:]
         stands = desk.after(begun, ['lines'])
         same(desk.after(begun, ['save friday']), ['saved friday', *stands], f'a save after {begun}')
         unbroken = [line.replace('the opening', 'the load') for line in desk.after(begun, left)]
         same(desk.answers(['load friday', *left]), ['loaded friday', *stands, *unbroken], f'a load before {left}')
     same(desk.files(), ['friday'], 'files after saves')
-    desk.answers([*BEGUN, 'save friday'])
-    same(desk.read('friday'), TEXT, 'the text')
+    for begun, text in [(GATHERED_BEGUN, GATHERED_TEXT), (BEGUN, TEXT)]:
+        desk.answers([*begun, 'save friday'])
+        same(desk.read('friday'), text, 'the text')
 
 
 def put_in_place(desk):
@@ -173,15 +214,19 @@ def put_in_place(desk):
 
 
 def refuse_texts(desk):
-    """A refused load shows number, line and reason, and the session stays as it was, page and display."""
-    stands = desk.after(BEGUN, ['lines', 'watch'])
+    """A refused load shows number, line and reason, and the session, of either mode, stays as it was, page and
+    display."""
     form = 'refused 16: the text is not of its form: line %d is not %s, and a newline'
-    cases = [(form % (line, FORMS[min(line, 7) - 1]), text) for line, texts in BAD_TEXTS.items() for text in texts]
+    cases = [(form % (line, forms[min(line, len(forms)) - 1]), text)
+             for forms, bad in [(FORMS, BAD_TEXTS), (GATHERED_FORMS, BAD_GATHERED)]
+             for line, texts in bad.items() for text in texts]
     cases += [('refused 10: the page has no room for so many lines', text) for text in TOO_MANY]
     cases += [('refused 7: slip and page are not sound', text) for text in NOT_SOUND]
     for refusal, text in cases:
         desk.write('friday', text)
-        same(desk.after(BEGUN, ['load friday', 'watch']), [refusal, *stands], f'a load of {text[:200]!r}')
+        for begun in BEGUN, GATHERED_BEGUN:
+            stands = desk.after(begun, ['lines', 'watch'])
+            same(desk.after(begun, ['load friday', 'watch']), [refusal, *stands], f'a load of {text[:200]!r}')
         same(desk.answers(['load friday']), [refusal, 'nothing is open'], f'a load of {text[:200]!r}')
         same(desk.read('friday'), text, 'the text that is refused')
     desk.write('friday', page_of(4096))
@@ -196,6 +241,10 @@ def take_up_others(desk):
           '(3,2) on (3,2): settled 5, steps 1 of at most 206', 'line 0: - (1,1) on (2), strike 2',
           '(3,2) on (3,2): settled 6, steps 2 of at most 206', 'no line waits: settled is 6, the character is 1'],
          'a text that was changed')
+    desk.write('friday', gathered('line=-1;', 'line=-2;'))
+    same(desk.answers(['load friday'])[1],
+         'this session began with no opening: settled plus waiting is 7, the character is 6',
+         'a gathered text that was changed')
 
 
 def fill_page(desk):
@@ -215,6 +264,27 @@ def fill_page(desk):
     same(desk.after(room, ['preview 4094 1'])[:3], [*lines, 'would be added to settled: 0'], 'just enough room')
     same(desk.after(room, ['strike 4094 1'])[-2:],
          ['line 4094: - (1,1) on (1,1), strike 1', 'line 4095: - (2) on (1,1), strike 1'], 'the last lines of a page')
+
+
+def fill_gathered_page(desk):
+    """On a full gathered page a strike has room where its hooks are joined to lines that wait, and else is refused."""
+    text, lines = gathered_page()
+    desk.write('friday', text)
+    new, joined = lines.index('line=2;9,1;9,1\n'), lines.index('line=2;9,2;10,1\n')
+    loaded, refusal = ['load friday'], 'refused 10: the page has no room for so many lines'
+    stands = desk.after(loaded, ['lines'])
+    same(desk.after(loaded, [f'preview {new} 1', f'strike {new} 1', 'save friday']),
+         ['would come, times 2: + (8,1) on (9)', 'would come, times 2: + (9) on (9)', f'a strike would be {refusal}',
+          *stands, refusal, *stands, 'saved friday', *stands], 'a strike whose hooks are not joined')
+    same(desk.read('friday'), text, 'the text of a full gathered page')
+    met = [lines.index(f'line=2;{shape};10\n') for shape in ('8,2', '9,1')]
+    same(desk.after(loaded, [f'preview {joined} 1'])[:3],
+         [f'would come, times 2: + (8,2) on (10), to line {met[0]}',
+          f'would come, times 2: + (9,1) on (10), to line {met[1]}', 'would be added to settled: 0'], 'joined hooks')
+    struck = desk.after(loaded, [f'strike {joined} 1'])
+    same([len(struck), *(struck[1 + line] for line in met)],
+         [1 + 4095, f'line {met[0]}: 4 (8,2) on (10), strike 10', f'line {met[1]}: 4 (9,1) on (10), strike 10'],
+         'a strike whose hooks are joined')
 
 
 def refused_by_system(desk, command, words, **more):
@@ -280,7 +350,8 @@ def main():
     program, failing = sys.argv[1:]
     with tempfile.TemporaryDirectory() as folder:
         desk = Desk(folder, program, failing)
-        for part in [take_up, put_in_place, refuse_texts, take_up_others, fill_page, refuse_files, fail]:
+        for part in [take_up, put_in_place, refuse_texts, take_up_others, fill_page, fill_gathered_page, refuse_files,
+                     fail]:
             part(desk)
             desk.clear()
 

@@ -1,6 +1,7 @@
 -- The signed character of a page's word, which has room in 64 bits.
 use mathlib.Core.Path.{_≡_, sym, _∙_}
 use Prim.Native.Nat.{_<_}
+use native.Mathlib.Nat.{one-mul}
 use native.Mathlib.Omega.{arith}
 use lib.IntN.{*ℤ-comm}
 use Rattle.theory.specs.Basics.{Bool, ℕ, _+_, _^_, ℤ, pos, _+ℤ_, _*ℤ_, natAbs, signed}
@@ -10,14 +11,15 @@ use Rattle.theory.specs.ShapeWord.{shapeOf}
 use Rattle.theory.specs.ClassWord.{classOf}
 use Rattle.theory.specs.ClassWord.Laws.{good-class, parts-no-zero}
 use Rattle.theory.specs.Character.{_on_}
+use Rattle.theory.specs.Bounds.{factorial}
 use Rattle.theory.specs.Bounds.Laws.{abs-add, largestLimit}
-use Rattle.pages.specs.Line.{Line, signedCharacter}
+use Rattle.pages.specs.Line.{Line, lineDegree, signedCharacter}
 use Rattle.pages.specs.Page.{lineOf}
+use Rattle.pages.specs.Page.Words.{unit-weight}
 use Rattle.pages.specs.Sound.{lineValue}
 use Rattle.pages.specs.Sound.Laws.{SoundLine}
 use Rattle.pages.specs.Sound.Bounds.{character-within, line-bounded}
 use Rattle.pages.proofs.Signed.{carried, carried-is}
-use Rattle.pages.proofs.SoundLines.{word-value}
 use Rattle.characters.specs.Private.Evaluation.{Evaluable}
 use Rattle.characters.proofs.Walks.{character-carried}
 
@@ -32,6 +34,10 @@ module _ {limit : ℕ} {l : Line} (s : SoundLine limit l) where
     degrees = s .degrees;
     small = omega (arith, s .degrees, s .within);
   }
+
+-- a page's word counts its d! once
+pub word-value : (x : ℕ) → lineValue (lineOf x) ≡ factorial (lineDegree (lineOf x))
+word-value x = rw (unit-weight x) (one-mul (factorial (lineDegree (lineOf x))))
 
 unit-times : (minus : Bool) (z : ℤ) → signed minus (pos 1) *ℤ z ≡ signed minus z
 unit-times minus z = sym (times-signed minus (pos 1) z) ∙ *ℤ-comm (pos 1) (signed minus z) ∙ times-one (signed minus z)

@@ -14,7 +14,7 @@ use Rattle.theory.specs.Refusals.Laws.{first-refuses, first-passes, or-refused}
 use Rattle.words.specs.Answers.{Outcome}
 use Rattle.pages.specs.Page.{wordOf, slipOf, blank}
 use Rattle.pages.specs.Page.{plain}
-use Rattle.characters.specs.Opening.{handed, firstLines, opening, Handed}
+use Rattle.characters.specs.Opening.{handed, firstLines, opening, openingIn, Handed}
 
 set-first : (n w : ℕ) → (n ≡ 0 → ⊥) → set (replicate n 0) 0 w ≡ w ∷ replicate (n - 1) 0
 set-first zero w some = absurd (some refl)
@@ -36,7 +36,7 @@ module _ (limit s c : ℕ) (page : List ℕ) where
   Opened r after = Outcome (opening limit s c page) r after
 
   refused : (k : ℕ) → firstOf (pairChecks limit s c ++ behind) ≡ k → (k ≡ 0 → ⊥) → Opened (handed k blank) page
-  unfolding opening
+  unfolding openingIn
   refused k e some =
       rw (e, or-refused {A = Handed × List ℕ} (λ k. (handed k blank, page)) _ k some)
       (record { answers = refl; leaves = refl })
@@ -57,8 +57,8 @@ module _ (limit s c : ℕ) (page : List ℕ) where
       page-passes = words-pass ∙ rw (le-ltb pageLimit (length page) short)
 
       pub empty-opens : (w : ℕ) → w ≡ good → degree (shapeOf s) ≡ 0
-          → Opened (handed 0 (slipOf w c (pos 1) 0 (pos 0))) (replicate (length page) 0)
-      unfolding opening
+          → Opened (handed 0 (slipOf w c (pos 1) 0 (pos 0) 0)) (replicate (length page) 0)
+      unfolding openingIn
       empty-opens w is e =
           let d = eq-eqb (degree (shapeOf good)) 0 (same-degree ∙ e) in
           let all : length page - 0 ≡ length page = omega arith in
@@ -77,9 +77,9 @@ module _ (limit s c : ℕ) (page : List ℕ) where
             (λ z. omega arith)
 
         pub line-opens : (w : ℕ) → w ≡ good → (length page ≡ 0 → ⊥)
-            → Opened (handed 0 (slipOf w c (pos 0) 1 (pos 0)))
+            → Opened (handed 0 (slipOf w c (pos 0) 1 (pos 0) 0))
             (set (replicate (length page) 0) 0 (wordOf (plain false w c)))
-        unfolding opening
+        unfolding openingIn
         line-opens w is room =
             let d = ne-eqb (degree (shapeOf good)) 0 some-good in
             let pass : firstOf (pairChecks limit s c ++ behind) ≡ 0 =

@@ -12,7 +12,9 @@ use Rattle.theory.specs.Refusals.Laws.{first-refuses, first-passes, or-refused,
 use Rattle.pages.specs.Line.{Line}
 use Rattle.pages.specs.declared.Slip.{Slip}
 use Rattle.pages.specs.Page.{lineOf, waiting, lineAt}
+use Rattle.pages.specs.Mode.{plainMode}
 use Rattle.pages.specs.Sound.{pageChecks}
+use Rattle.pages.specs.Lawful.Plain.{plain-lawful}
 use Rattle.pages.proofs.SoundPages.{line-word}
 use Rattle.characters.specs.declared.lines.WithoutCycle.{WithoutCycle}
 use Rattle.characters.specs.declared.sessions.ClassLeft.{ClassLeft}
@@ -77,7 +79,7 @@ module _ (limit : ℕ) (slip : Slip) (page : List ℕ) (line cycle : ℕ) where
   -- ---- what is left
   pub record Chosen (r : ClassLeft) : Type 0 where
     pub none : first ≡ 0
-    pub named : NamedOn limit slip page line cycle
+    pub named : NamedOn plainMode limit slip page line cycle
     pub class-left : r .class ≡ classWord (without cycle (classOf (chosen .class)))
 
   module _ (r : ClassLeft) (e : r ≡ left) where
@@ -90,7 +92,7 @@ module _ (limit : ℕ) (slip : Slip) (page : List ℕ) (line cycle : ℕ) where
     chosen-by z =
         let (none, given) =
         answer-given (λ (x : ClassLeft). x .refused) (λ k. classLeft k 0) _ (λ k. refl) refl first r e z in
-        let named = named-on limit slip page line cycle none in
+        let named = named-on plain-lawful limit slip page line cycle none in
         record {
           none = none;
           named = named;

@@ -26,7 +26,9 @@ use Rattle.pages.specs.Line.Weights.{weightOf}
 use Rattle.pages.specs.declared.Slip.{Slip}
 use Rattle.pages.specs.Page.{lineOf, wordOf, waiting, lineAt, padded, slipOf}
 use Rattle.pages.specs.Page.Words.{map-take, map-drop, front-read}
-use Rattle.pages.specs.Sound.Laws.{line-wider, asked}
+use Rattle.pages.specs.Mode.{plainMode}
+use Rattle.pages.specs.Lawful.Plain.{plain-lawful}
+use Rattle.pages.specs.Sound.Laws.{line-wider, asked, sound-zeros}
 use Rattle.pages.specs.Sound.Bounds.{asked-within}
 use Rattle.pages.proofs.Signed.{carried, carried-is}
 use Rattle.pages.proofs.SoundPages.{line-word, sound-line-at}
@@ -34,8 +36,8 @@ use Rattle.characters.specs.declared.lines.HookLines.{HookLines}
 use Rattle.characters.specs.declared.sessions.ClassLeft.{ClassLeft}
 use Rattle.characters.specs.declared.sessions.Struck.{Struck}
 use Rattle.characters.specs.Opening.{handed, Handed}
-use Rattle.characters.specs.Step.{settledHooks, waitingHooks, nextLines, nextSlip, namedChecks, newLines, preview}
-use Rattle.characters.specs.Step.{commitChecks, commit}
+use Rattle.characters.specs.Step.{settledHooks, waitingHooks, nextLinesIn, nextSlipIn, previewIn, commitIn}
+use Rattle.characters.specs.Step.{nextLines, nextSlip, namedChecks, newLines, preview, commitChecks, commit}
 use Rattle.characters.specs.Step.Named.{settled-room, next-length}
 use Rattle.characters.specs.Step.Laws.{NamedOn, named-on}
 use Rattle.characters.specs.Step.Previews.{few-new}
@@ -79,7 +81,7 @@ module _ (limit : ℕ) (small : limit ≤ largestLimit) (slip : Slip) (page : Li
       )
       (record { answers = refl; leaves = refl })
 
-  module _ (n : NamedOn limit slip page line cycle) where
+  module _ (n : NamedOn plainMode limit slip page line cycle) where
     word : chosen ≡ on-page
     word = line-word slip page line (n .there)
 
@@ -91,7 +93,7 @@ module _ (limit : ℕ) (small : limit ≤ largestLimit) (slip : Slip) (page : Li
       class-left = e;
       room = omega (
         arith,
-        few-new limit slip page line cycle n,
+        few-new plain-lawful limit slip page line cycle n,
         length-map (waitingHooks cycle chosen) wordOf,
         ap (λ (l : Line). length (waitingHooks cycle l)) word,
       );
@@ -101,7 +103,7 @@ module _ (limit : ℕ) (small : limit ≤ largestLimit) (slip : Slip) (page : Li
     settled-small : natAbs (slip .settled) + natAbs settled < 2 ^ 63
     settled-small =
         let n! = factorial-fits (asked slip) (omega (arith, asked-within limit slip lines (n .soundness .lines))) in
-        omega (arith, settled-room limit slip lines line cycle (n .named))
+        omega (arith, settled-room plain-lawful limit slip lines line cycle (n .named))
 
     settled-carried : carried settled ≡ settled
     settled-carried = carried-is settled (omega (arith, settled-small))
@@ -132,7 +134,7 @@ module _ (limit : ℕ) (small : limit ≤ largestLimit) (slip : Slip) (page : Li
   -- ---- what it tells
   pub record Hooked (h : Struck) (strip : List ℕ) : Type 0 where
     pub none : firstOf named ≡ 0
-    pub on : NamedOn limit slip page line cycle
+    pub on : NamedOn plainMode limit slip page line cycle
     pub count : h .count ≡ length new
     pub sum-settled : h .settled ≡ settled
     pub front : take (h .count) strip ≡ new
@@ -156,7 +158,7 @@ module _ (limit : ℕ) (small : limit ≤ largestLimit) (slip : Slip) (page : Li
           let (none, given) =
           answer-given (λ (x : Struck × List ℕ). x .0 .refused) (λ k. (struck k 0 (pos 0), lent)) _ (λ k. refl) refl
           (firstOf named) (h, strip) whole z in
-          let on = named-on limit slip page line cycle none in
+          let on = named-on plain-lawful limit slip page line cycle none in
           let count : h .count ≡ length new = ap (λ (x : Struck × List ℕ). x .0 .count) given in
           let left : strip ≡ atFront new lent = ap (λ (x : Struck × List ℕ). x .1) given in
           record {
@@ -166,7 +168,7 @@ module _ (limit : ℕ) (small : limit ≤ largestLimit) (slip : Slip) (page : Li
             sum-settled = ap (λ (x : Struck × List ℕ). x .0 .settled) given;
             front = rw left (take-at new _ (h .count) (sym count));
             inside = rw (left, length-append) (omega arith);
-            few = omega (arith, few-new limit slip page line cycle on);
+            few = omega (arith, few-new plain-lawful limit slip page line cycle on);
           }
 
       -- a preview and a commit are refused as the line and the cycle are
@@ -177,7 +179,7 @@ module _ (limit : ℕ) (small : limit ≤ largestLimit) (slip : Slip) (page : Li
   -- ---- a preview
   preview-refused : (lent : List ℕ) (k : ℕ) → firstOf (named ++ no-18 new lent ∷ []) ≡ k → (k ≡ 0 → ⊥)
       → Outcome (preview limit slip page line cycle lent) (countAnswer k 0) lent
-  unfolding preview
+  unfolding previewIn
   preview-refused lent k e some =
       rw (e, or-refused {A = CountAnswer × List ℕ} _ _ k some)
       (record { answers = refl; leaves = refl })
@@ -198,7 +200,7 @@ module _ (limit : ℕ) (small : limit ≤ largestLimit) (slip : Slip) (page : Li
 
     pub previewed : h .count ≤ length lent → (left : List ℕ) → left ≡ sets lent 0 (take (h .count) strip)
         → Outcome (preview limit slip page line cycle lent) (countAnswer 0 (h .count)) left
-    unfolding preview
+    unfolding previewIn
     previewed long left e =
         let fits : length new ≤ length lent = omega (arith, k .count) in
         let pass : firstOf (named ++ no-18 new lent ∷ []) ≡ 0 = asked-18 ∙ rw (le-ltb (length lent) (length new) fits) refl in
@@ -208,7 +210,7 @@ module _ (limit : ℕ) (small : limit ≤ largestLimit) (slip : Slip) (page : Li
   -- ---- a commit
   commit-refused : (lent : List ℕ) (k : ℕ) → firstOf (commitChecks limit slip page line cycle lent) ≡ k → (k ≡ 0 → ⊥)
       → Outcome (commit limit slip page line cycle lent) (handed k slip) page
-  unfolding commit
+  unfolding commitIn
   commit-refused lent k e some =
       rw (e, or-refused {A = Handed × List ℕ} _ _ k some)
       (record { answers = refl; leaves = refl })
@@ -232,7 +234,7 @@ module _ (limit : ℕ) (small : limit ≤ largestLimit) (slip : Slip) (page : Li
     exchanges room = record {
       there = k .on .there;
       fit = k .on .soundness .fit;
-      zeros = k .on .soundness .zeros;
+      zeros = sound-zeros limit slip page (k .on .soundness);
       room = rw (k .front) (omega (arith, k .count));
     }
 
@@ -248,14 +250,14 @@ module _ (limit : ℕ) (small : limit ≤ largestLimit) (slip : Slip) (page : Li
     )
 
     slip-after : slipOf (slip .shape) (slip .class) (slip .settled +ℤ carried (h .settled)) (slip .lines - 1 + h .count)
-        (slip .steps +ℤ pos 1) ≡ nextSlip slip lines line cycle
-    unfolding nextSlip
+        (slip .steps +ℤ pos 1) (slip .mode) ≡ nextSlip slip lines line cycle
+    unfolding nextSlipIn
     slip-after = rw (sum-carried, lines-after)
 
     module _ (bits : (i : ℕ) → getD page i 0 < 2 ^ 64) where
       -- the words of the lines that come: those of the others, as they were, and the new ones
       words-after : map wordOf next ≡ others page line (slip .lines) ++ new
-      unfolding nextLines
+      unfolding nextLinesIn
       words-after =
           let read = front-read (slip .lines) page bits in
           let first = map-take wordOf line lines ∙ ap (take line) read in
@@ -300,9 +302,9 @@ module _ (limit : ℕ) (small : limit ≤ largestLimit) (slip : Slip) (page : Li
 
             pub committed : (after : Slip) (left : List ℕ)
                 → after ≡ slipOf (slip .shape) (slip .class) (slip .settled +ℤ carried (h .settled))
-                (slip .lines - 1 + h .count) (slip .steps +ℤ pos 1)
+                (slip .lines - 1 + h .count) (slip .steps +ℤ pos 1) (slip .mode)
                 → left ≡ exchanged page line (slip .lines) (take (h .count) strip)
                 → Outcome (commit limit slip page line cycle lent) (handed 0 after) left
-            unfolding commit
+            unfolding commitIn
             committed after left ea el =
                 rw (first ∙ z) (record { answers = ap (handed 0) (ea ∙ slip-after); leaves = el ∙ page-after })

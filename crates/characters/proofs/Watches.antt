@@ -1,6 +1,6 @@
--- From the tests of a watch to what it is promised to answer, and the numbers of a ratio.
+-- From the tests of a watch, in any mode, to what it is promised to answer, and the numbers of a ratio.
 --   Watching ..   what it tells that no check refuses a watch
-use mathlib.Core.Path.{_≡_, refl, sym, _∙_, ap}
+use mathlib.Core.Path.{_≡_, sym, _∙_, ap}
 use Prim.Native.Nat.{_≤_, _<_}
 use native.Mathlib.Decide.{decLe, decLt}
 use native.Mathlib.Omega.{arith}
@@ -18,34 +18,37 @@ use Rattle.theory.specs.Refusals.Laws.{both-pass, first-refuses, first-passes, 
 use Rattle.words.specs.Answers.{numberAnswer}
 use Rattle.words.specs.declared.NumberAnswer.{NumberAnswer}
 use Rattle.words.proofs.Factorials.{factorial-fits}
-use Rattle.pages.specs.Line.{lineDegree, signedCharacter}
+use Rattle.pages.specs.Line.{Line, lineDegree, signedCharacter}
 use Rattle.pages.specs.declared.Slip.{Slip}
-use Rattle.pages.specs.Page.{lineOf, waiting}
+use Rattle.pages.specs.Page.{lineOf}
 use Rattle.pages.specs.Page.Words.{unit-weight}
-use Rattle.pages.specs.Sound.{lineValue, pageChecks}
-use Rattle.pages.specs.Sound.Laws.{SoundLine, line-wider, asked, values, Sound, page-passed}
+use Rattle.pages.specs.Mode.{Mode, waitingIn}
+use Rattle.pages.specs.Sound.{lineValue, pageChecksIn}
+use Rattle.pages.specs.Sound.Laws.{SoundLine, line-wider, asked, values, SoundLines, SoundIn}
 use Rattle.pages.specs.Sound.Bounds.{asked-within, line-bounded, lines-bounded}
+use Rattle.pages.specs.Lawful.{Lawful}
+use Rattle.pages.specs.Lawful.Checks.{numbered-page, passed-page}
 use Rattle.pages.proofs.Signed.{carried, carried-is}
-use Rattle.pages.proofs.SoundLines.{word-value}
 use Rattle.characters.specs.Calls.{shapeCharacterDegree}
-use Rattle.characters.specs.Watch.{Value, none, ratio, shown, watchChecks, watch}
+use Rattle.characters.specs.Watch.{Value, none, ratio, shownIn, watchChecksIn, watchIn}
 use Rattle.characters.specs.Watch.Ratios.{ratioLimit, Exact, line-exact}
+use Rattle.characters.proofs.LineValues.{word-value}
 
-module _ (limit : ℕ) (slip : Slip) (page : List ℕ) (kind line : ℕ) where
+module _ {m : Mode} (law : Lawful m) (limit : ℕ) (slip : Slip) (x : m .Lent) (kind line : ℕ) where
   -- ---- why a watch is refused
   -- the checks behind those of slip and page
   abbrev behind : List Check
   behind = no-15 kind ∷ cond (kind ≤? 2) (no-8 (slip .lines) line ∷ []) []
 
   abbrev first : ℕ
-  first = firstOf (watchChecks limit slip page kind line)
+  first = firstOf (watchChecksIn m limit slip x kind line)
 
-  pub page-first : (k : ℕ) → k ≡ firstOf (pageChecks limit slip page) → (k ≡ 0 → ⊥) → k ≡ first
-  page-first k e some = e ∙ sym (first-refuses (pageChecks limit slip page) behind (λ z. some (e ∙ z)))
+  pub page-first : (k : ℕ) → k ≡ firstOf (pageChecksIn m limit slip x) → (k ≡ 0 → ⊥) → k ≡ first
+  page-first k e some = e ∙ sym (first-refuses (pageChecksIn m limit slip x) behind (λ z. some (e ∙ z)))
 
-  module _ (clear : firstOf (pageChecks limit slip page) ≡ 0) where
+  module _ (clear : firstOf (pageChecksIn m limit slip x) ≡ 0) where
     passes : first ≡ firstOf behind
-    passes = first-passes (pageChecks limit slip page) behind refl clear
+    passes = first-passes (pageChecksIn m limit slip x) behind (numbered-page law limit slip x) clear
 
     pub kind-zero : kind ≡ 0 → 15 ≡ first
     kind-zero z = sym (passes ∙ rw (lt-leb 1 kind (omega arith)))
@@ -70,31 +73,34 @@ module _ (limit : ℕ) (slip : Slip) (page : List ℕ) (kind line : ℕ) where
 
   -- ---- the watch
   abbrev Shows : ℕ → Value → Type 0
-  Shows k v = _≡_ {A = ℕ × Value} (k, v) (watch limit slip page kind line)
+  Shows k v = _≡_ {A = ℕ × Value} (k, v) (watchIn m limit slip x kind line)
 
   pub watch-refused : (k : ℕ) → k ≡ first → (k ≡ 0 → ⊥) → Shows k none
-  unfolding watch
+  unfolding watchIn
   watch-refused k e some = sym (rw (← e) (or-refused {A = ℕ × Value} (λ k. (k, none)) _ k some))
 
   pub record Watching : Type 0 where
-    pub soundness : Sound limit slip page
+    pub lent : firstOf (m .lentChecks x) ≡ 0
+    pub soundness : SoundIn m limit slip x
     pub some : 1 ≤ kind
     pub within : kind ≤ 5
     pub there : kind ≤ 2 → line < slip .lines
-    pub shows : Shows 0 (shown slip (waiting slip page) line kind)
+    pub shows : Shows 0 (shownIn m slip (waitingIn m slip x) line kind)
 
   pub watching : (k : ℕ) → k ≡ first → k ≡ 0 → Watching
-  unfolding watch
+  unfolding watchIn
   watching k e z =
       let pass : first ≡ 0 = sym e ∙ z in
-      let clear = both-pass (pageChecks limit slip page) behind refl pass .0 in
+      let clear = both-pass (pageChecksIn m limit slip x) behind (numbered-page law limit slip x) pass .0 in
       let some : kind ≡ 0 → ⊥ = λ none. omega (arith, kind-zero clear none) in
       let within : kind ≤ 5 = elim (decLe kind 5) [
         | yes l ↦ l
         | no f ↦ absurd (omega (arith, kind-above clear some (omega arith)))
       ] in
+      let (lent, soundness) = passed-page law limit slip x clear in
       record {
-        soundness = page-passed limit slip page clear .1;
+        lent = lent;
+        soundness = soundness;
         some = omega arith;
         within = within;
         there = λ of-line. elim (decLt line (slip .lines)) [
@@ -105,7 +111,8 @@ module _ (limit : ℕ) (slip : Slip) (page : List ℕ) (kind line : ℕ) where
       }
 
   -- a kind shows its equation
-  pub shows-by : Watching → (k : ℕ) → kind ≡ k → (v : Value) → v ≡ shown slip (waiting slip page) line k → Shows 0 v
+  pub shows-by : Watching → (k : ℕ) → kind ≡ k → (v : Value) → v ≡ shownIn m slip (waitingIn m slip x) line k
+      → Shows 0 v
   shows-by w k e v is = ap {B = ℕ × Value} (λ (u : Value). (0, u)) (is ∙ rw e) ∙ w .shows
 
 -- a kind that is none of the first four is the fifth
@@ -113,21 +120,22 @@ pub last-kind : (kind : ℕ) → 1 ≤ kind → kind ≤ 5 → (kind ≡ 1 → �
     → kind ≡ 5
 last-kind kind some within not-1 not-2 not-3 not-4 = omega arith
 
--- ---- what is shown of slip and page
-module _ (limit : ℕ) (small : limit ≤ largestLimit) (slip : Slip) (page : List ℕ) (s : Sound limit slip page) where
-  asked-small : asked slip ≤ largestLimit
-  asked-small = omega (arith, asked-within limit slip (waiting slip page) (s .lines))
+-- ---- what is shown of slip and lines
+module _ (limit : ℕ) (small : limit ≤ largestLimit) (slip : Slip) (lines : List Line) (s : SoundLines limit slip lines)
+  where
+    asked-small : asked slip ≤ largestLimit
+    asked-small = omega (arith, asked-within limit slip lines s)
 
-  pub waiting-sound : Each (SoundLine largestLimit) (waiting slip page)
-  waiting-sound = each-same (SoundLine (asked slip)) (SoundLine largestLimit) (waiting slip page)
-      (λ l. line-wider asked-small) (s .lines .each)
+    pub waiting-sound : Each (SoundLine largestLimit) lines
+    waiting-sound =
+        each-same (SoundLine (asked slip)) (SoundLine largestLimit) lines (λ l. line-wider asked-small) (s .each)
 
-  pub waiting-fits : values (waiting slip page) < 2 ^ 63
-  waiting-fits = omega (arith, s .lines .value, factorial-fits (asked slip) asked-small)
+    pub waiting-fits : values lines < 2 ^ 63
+    waiting-fits = omega (arith, s .value, factorial-fits (asked slip) asked-small)
 
-  pub waiting-carried : carried (sum signedCharacter (waiting slip page)) ≡ sum signedCharacter (waiting slip page)
-  waiting-carried = carried-is (sum signedCharacter (waiting slip page))
-      (omega (arith, lines-bounded largestLimit (waiting slip page) waiting-sound, waiting-fits))
+    pub waiting-carried : carried (sum signedCharacter lines) ≡ sum signedCharacter lines
+    waiting-carried = carried-is (sum signedCharacter lines)
+        (omega (arith, lines-bounded largestLimit lines waiting-sound, waiting-fits))
 
 -- ---- what is shown of a page's word
 module _ (limit : ℕ) (small : limit ≤ largestLimit) (x : ℕ) (s : SoundLine limit (lineOf x)) where

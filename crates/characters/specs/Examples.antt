@@ -29,7 +29,7 @@ abbrev strike : ℕ → Handed × List ℕ → Handed × List ℕ
 strike cycle o = commit degreeLimit (o .0 .slip) (o .1) 0 cycle (seen cycle o .1)
 
 abbrev after : List ℕ → List ℕ → ℤ → ℕ → ℤ → List ℕ → Handed × List ℕ
-after s c settled lines steps page = (handed 0 (slipOf (shapeWord s) (classWord c) settled lines steps), page)
+after s c settled lines steps page = (handed 0 (slipOf (shapeWord s) (classWord c) settled lines steps 0), page)
 
 abbrev parts-3-2 : List ℕ
 parts-3-2 = 3 ∷ 2 ∷ []

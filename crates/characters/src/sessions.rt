@@ -23,6 +23,7 @@ use super::evaluation;
 use super::lines;
 use super::page;
 use pages::PAGE_LIMIT;
+use pages::PLAIN;
 use pages::Slip;
 use pages::pairs;
 use pages::soundness;
@@ -55,6 +56,7 @@ fn unopened(number: u8) -> Handed
             settled: 0,
             lines: 0,
             steps: 0,
+            mode: PLAIN,
         },
     }
 }
@@ -82,6 +84,7 @@ pub fn open(shape: u32, class: u32, page: &mut [u64]) -> Handed
                 settled: 1,
                 lines: 0,
                 steps: 0,
+                mode: PLAIN,
             },
         };
     }
@@ -98,6 +101,7 @@ pub fn open(shape: u32, class: u32, page: &mut [u64]) -> Handed
             settled: 0,
             lines: 1,
             steps: 0,
+            mode: PLAIN,
         },
     }
 }
@@ -161,7 +165,8 @@ fn strike(slip: Slip, page: &[u64], line: usize, cycle: u64, strip: &mut [u64]) 
 // The slip after a step that settles a sum and leaves so many lines.
 fn next_slip(slip: Slip, settled: i64, lines: usize) -> Slip
     requires { ⌜ (natAbs (slip .settled) + natAbs settled < 2 ^ 63) × (natAbs (slip .steps) + 1 < 2 ^ 63) ⌝ }
-    ensures { λ r. ⌜ r ≡ slipOf (slip .shape) (slip .class) (slip .settled +ℤ settled) lines (slip .steps +ℤ pos 1) ⌝ }
+    ensures { λ r. ⌜ r ≡ slipOf (slip .shape) (slip .class) (slip .settled +ℤ settled) lines (slip .steps +ℤ pos 1)
+        (slip .mode) ⌝ }
 {
     Slip {
         shape: slip.shape,
@@ -169,6 +174,7 @@ fn next_slip(slip: Slip, settled: i64, lines: usize) -> Slip
         settled: evaluation::add_signed(slip.settled, false, settled),
         lines,
         steps: evaluation::add_signed(slip.steps, false, 1),
+        mode: slip.mode,
     }
 }
 

@@ -1,5 +1,5 @@
 -- Two budgets that fall as the words of a page are read: what one word does to them, and what they are at first.
-use mathlib.Core.Path.{_≡_, refl, sym, _∙_}
+use mathlib.Core.Path.{_≡_, refl, sym, _∙_, ap}
 use mathlib.Core.Bool.{false≢true}
 use Prim.Native.Nat.{min, _≤_, _<_}
 use native.Mathlib.Numerals.{add-one}
@@ -8,19 +8,20 @@ use borrow.Author.Tests.{le-leb, lt-leb, ne-eqb}
 use lib.ListN.{drop-of-length-le}
 use lib.Seq.{drop-cons}
 use lib.Signed.{nonNeg}
-use Rattle.theory.specs.Basics.{Bool, true, false, cond, _&&_, List, map, length, getD, drop, ℕ, _+_, _-_, natAbs, _≤?_}
+use Rattle.theory.specs.Basics.{Bool, true, false, cond, _&&_, List, _∷_, map, length, getD, drop, ℕ, _+_, _-_}
+use Rattle.theory.specs.Basics.{_*_, natAbs, _≤?_}
 use Rattle.theory.specs.Basics.Laws.{both}
 use Rattle.theory.specs.Bounds.{factorial, S}
 use Rattle.theory.specs.ShapeWord.{goodShape}
 use Rattle.theory.specs.Refusals.{firstOf, pairChecks}
 use Rattle.pages.specs.Line.{Line, lineDegree}
 use Rattle.pages.specs.Page.{lineOf, Slip}
+use Rattle.pages.specs.Page.Words.{unit-weight}
 use Rattle.pages.specs.Sound.{soundLine, soundWords}
 use Rattle.pages.specs.Sound.Laws.{sound-line, asked}
 use Rattle.pages.specs.Budget.{left, overspent, budgetOf, spentOn, spentAll, Budget}
 use Rattle.pages.specs.Budget.Laws.{overspent-stays}
-use Rattle.pages.specs.Private.Degrees.{soundDegree, mostDegree, paidFor}
-use Rattle.pages.proofs.SoundLines.{word-value}
+use Rattle.pages.specs.Private.Degrees.{soundDegree, mostDegree, takenFrom, paidFor}
 
 -- ---- a sound degree
 module _ (n : ℕ) (l : Line) (d : ℕ) (e : d ≡ soundDegree n l) where
@@ -60,61 +61,69 @@ two-tests limit b l = go (b .enough)
     go false = none (soundLine 0 l) refl
 
 -- ---- a line's degree tells what the line leaves
-module _ (limit : ℕ) (b : Budget) (x d : ℕ) (e : d ≡ soundDegree (mostDegree limit b) (lineOf x)) where
-  paid-is : paidFor d b ≡ spentOn limit b (lineOf x)
-  unfolding paidFor spentOn
+module _ (limit : ℕ) (b : Budget) (l : Line) (d : ℕ) (e : d ≡ soundDegree (mostDegree limit b) l) where
+  paid-is : paidFor (natAbs (l .weight)) d b ≡ spentOn limit b l
+  unfolding paidFor takenFrom spentOn
   paid-is =
-      by-soundness (mostDegree limit b) (lineOf x) d e (paidFor d b ≡ spentOn limit b (lineOf x))
+      by-soundness (mostDegree limit b) l d e (paidFor (natAbs (l .weight)) d b ≡ spentOn limit b l)
       (λ t q.
-      let tests = both (b .enough) (soundLine (min (b .degree) limit) (lineOf x)) (two-tests limit b (lineOf x) ∙ t) in
-      let some = sound-line _ (lineOf x) t .some in
-      rw (tests .0, tests .1, word-value x, q, le-leb 1 (lineDegree (lineOf x)) some))
-      (λ t q. rw (two-tests limit b (lineOf x), t, q))
+      let tests = both (b .enough) (soundLine (min (b .degree) limit) l) (two-tests limit b l ∙ t) in
+      rw (tests .0, tests .1, q, le-leb 1 (lineDegree l) (sound-line _ l t .some)))
+      (λ t q. rw (two-tests limit b l, t, q))
+
+  pub spent-one : (c : Budget) (lines : List Line) → c ≡ paidFor (natAbs (l .weight)) d b
+      → spentAll limit c lines ≡ spentAll limit b (l ∷ lines)
+  unfolding spentAll
+  spent-one c lines is = ap (λ (c : Budget). spentAll limit c lines) (is ∙ paid-is)
 
 -- ---- once overspent, it stays so
-pub paid-stays : (limit d : ℕ) (b c : Budget) (lines : List Line) → c ≡ paidFor d b → c .enough ≡ false
+pub paid-stays : (limit k d : ℕ) (b c : Budget) (lines : List Line) → c ≡ paidFor k d b → c .enough ≡ false
     → c ≡ spentAll limit c lines
-unfolding paidFor
-paid-stays limit d b c lines e = rw e (go (1 ≤? d && factorial d ≤? b .value && S d ≤? b .span))
+unfolding paidFor takenFrom
+paid-stays limit k d b c lines e =
+    rw e (go (1 ≤? d) (k * factorial d ≤? b .value && S d ≤? b .span))
   where
-    after : Bool → Budget
-    after t = cond t (left (b .degree) (b .value - factorial d) (b .span - S d)) overspent
+    after : Bool → Bool → Budget
+    after s t =
+        cond s (cond t (left (b .degree) (b .value - k * factorial d) (b .span - S d)) overspent) overspent
 
-    go : (t : Bool) → after t .enough ≡ false → after t ≡ spentAll limit (after t) lines
-    go true n = absurd (false≢true (sym n))
-    go false n = sym (overspent-stays limit lines)
+    go : (s t : Bool) → after s t .enough ≡ false → after s t ≡ spentAll limit (after s t) lines
+    go true true n = absurd (false≢true (sym n))
+    go true false n = sym (overspent-stays limit lines)
+    go false t n = sym (overspent-stays limit lines)
 
 -- ---- paying, test by test
-module _ (d : ℕ) (b : Budget) where
-  pub no-line : d ≡ 0 → overspent ≡ paidFor d b
+module _ (value span : ℕ) (b : Budget) where
+  pub too-dear : b .value < value → overspent ≡ takenFrom value span b
+  unfolding takenFrom
+  too-dear short = rw (lt-leb value (b .value) short)
+
+  module _ (paid : value ≤ b .value) where
+    pub too-long : b .span < span → overspent ≡ takenFrom value span b
+    unfolding takenFrom
+    too-long short = rw (le-leb value (b .value) paid, lt-leb span (b .span) short)
+
+    pub all-taken : span ≤ b .span → left (b .degree) (b .value - value) (b .span - span) ≡ takenFrom value span b
+    unfolding takenFrom
+    all-taken lasts = rw (le-leb value (b .value) paid, le-leb span (b .span) lasts)
+
+module _ (k d : ℕ) (b : Budget) where
+  pub no-line : d ≡ 0 → overspent ≡ paidFor k d b
   unfolding paidFor
   no-line none = rw none
 
-  module _ (some : d ≡ 0 → ⊥) (value : ℕ) (cost : value ≡ factorial d) where
-    is-some : 1 ≤? d ≡ true
-    is-some = le-leb 1 d (omega arith)
-
-    pub too-dear : b .value < value → overspent ≡ paidFor d b
-    unfolding paidFor
-    too-dear short = rw (is-some, ← cost, lt-leb value (b .value) short)
-
-    module _ (paid : value ≤ b .value) (span : ℕ) (steps : span ≡ S d) where
-      pub too-long : b .span < span → overspent ≡ paidFor d b
-      unfolding paidFor
-      too-long short = rw (is-some, ← cost, ← steps, le-leb value (b .value) paid, lt-leb span (b .span) short)
-
-      pub all-paid : span ≤ b .span → left (b .degree) (b .value - value) (b .span - span) ≡ paidFor d b
-      unfolding paidFor
-      all-paid lasts = rw (is-some, ← cost, ← steps, le-leb value (b .value) paid, le-leb span (b .span) lasts)
+  pub some-line : (d ≡ 0 → ⊥) → takenFrom (k * factorial d) (S d) b ≡ paidFor k d b
+  unfolding paidFor
+  some-line some = rw (le-leb 1 d (omega arith))
 
 -- ---- from line to line
 pub spent-next : (limit : ℕ) (b c : Budget) (xs : List ℕ) (i d : ℕ) → i < length xs
-    → d ≡ soundDegree (mostDegree limit b) (lineOf (getD xs i 0)) → c ≡ paidFor d b
+    → d ≡ soundDegree (mostDegree limit b) (lineOf (getD xs i 0)) → c ≡ paidFor 1 d b
     → spentAll limit c (map lineOf (drop (i + 1) xs)) ≡ spentAll limit b (map lineOf (drop i xs))
-unfolding spentAll
 spent-next limit b c xs i d h e is =
-    let on-it : c ≡ spentOn limit b (lineOf (getD xs i 0)) = is ∙ paid-is limit b (getD xs i 0) d e in
-    rw (on-it, add-one i, drop-cons xs i 0 h)
+    let l = lineOf (getD xs i 0) in
+    let size : 1 ≡ natAbs (l .weight) = sym (unit-weight (getD xs i 0)) in
+    rw (add-one i, drop-cons xs i 0 h) (spent-one limit b l d e c _ (is ∙ ap (λ k. paidFor k d b) size))
 
 pub spent-end : (limit : ℕ) (b : Budget) (xs : List ℕ) (i : ℕ) → length xs ≤ i
     → b ≡ spentAll limit b (map lineOf (drop i xs))

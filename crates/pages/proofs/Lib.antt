@@ -4,6 +4,10 @@ pub mod WordDegrees
 pub mod SoundLines
 pub mod SpanTable
 pub mod Zeros
+pub mod AllDifferent
+pub mod Chains
 pub mod Budgets
+pub mod WeightedLines
 pub mod SoundPages
+pub mod GatheredPages
 pub mod Unique

@@ -1,18 +1,14 @@
 -- Sound lines, as the code meets them: from the degrees of a line's two words to its own.
 use mathlib.Core.Path.{_≡_, refl, sym, _∙_}
 use Prim.Native.Nat.{_≤_, _<_}
-use native.Mathlib.Nat.{one-mul}
 use native.Mathlib.Decide.{ℕ-discrete}
 use native.Mathlib.Omega.{arith}
 use Rattle.theory.specs.Basics.{Bool, true, false, cond, ℕ}
 use Rattle.theory.specs.ShapeWord.Good.{good-shape, shape-good}
 use Rattle.theory.specs.ClassWord.Laws.{good-class, class-good}
-use Rattle.theory.specs.Bounds.{factorial}
 use Rattle.theory.specs.Refusals.Laws.{Within, WithinClass}
 use Rattle.pages.specs.Line.{Line, lineDegree}
-use Rattle.pages.specs.Page.{lineOf}
-use Rattle.pages.specs.Page.Words.{unit-weight}
-use Rattle.pages.specs.Sound.{soundLine, lineValue}
+use Rattle.pages.specs.Sound.{soundLine}
 use Rattle.pages.specs.Sound.Laws.{SoundLine, sound-line, line-sound}
 use Rattle.pages.specs.Private.Degrees.{soundDegree, wordDegree}
 use Rattle.pages.proofs.WordDegrees.{shape-degree-is, class-degree-is, shape-degree-some, class-degree-some}
@@ -68,7 +64,3 @@ module _ (n : ℕ) (l : Line) where
             within = omega arith;
           }))
     ]
-
--- a page's word counts its d! once
-pub word-value : (x : ℕ) → lineValue (lineOf x) ≡ factorial (lineDegree (lineOf x))
-word-value x = rw (unit-weight x) (one-mul (factorial (lineDegree (lineOf x))))

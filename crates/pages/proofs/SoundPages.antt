@@ -1,8 +1,9 @@
--- Whether slip and page are sound, test by test, and why both are refused.
-use mathlib.Core.Path.{_≡_, refl, sym, _∙_, ap}
+-- Whether what is lent in a mode is sound, test by test; and why slip and page are refused in the plain mode.
+use mathlib.Core.Path.{_≡_, sym, _∙_, ap}
+use mathlib.Core.Bool.{and-true, and-false}
 use Prim.Native.Nat.{_≤_, _<_}
 use native.Mathlib.Omega.{arith}
-use borrow.Author.Tests.{lt-ltb, le-ltb, lt-leb, le-leb}
+use borrow.Author.Tests.{lt-ltb, le-ltb, lt-leb, le-leb, eq-eqb, ne-eqb}
 use lib.ListN.{List·getD-map, length-map}
 use lib.Seq.{length-take-le, getD-take}
 use Rattle.theory.specs.Basics.{Bool, true, false, _&&_, List, length, getD, take, drop, ℕ, _=?_, every}
@@ -10,40 +11,50 @@ use Rattle.theory.specs.Basics.AtPlace.{each-at}
 use Rattle.theory.specs.Limits.{pageLimit}
 use Rattle.theory.specs.Refusals.{firstOf}
 use Rattle.pages.specs.Page.{lineOf, waiting, lineAt, Slip}
-use Rattle.pages.specs.Sound.{sound, pageChecks}
+use Rattle.pages.specs.Mode.{Mode, waitingIn, plainMode}
+use Rattle.pages.specs.Sound.{soundIn, sound, pageChecks}
 use Rattle.pages.specs.Sound.Laws.{SoundLine, line-wider, asked, Sound}
 use Rattle.pages.specs.Sound.Bounds.{asked-within}
 use Rattle.pages.specs.Budget.{budgetOf, spentAll}
-use Rattle.pages.specs.Budget.Laws.{budget-sound-page}
+use Rattle.pages.specs.Budget.Laws.{budget-sound-in}
 
-and-true : (a : Bool) → a ≡ a && true
-and-true true = refl
-and-true false = refl
+-- ---- soundness in a mode
+module _ (m : Mode) (limit : ℕ) (slip : Slip) (x : m .Lent) where
+  pub other-mode : (slip .mode ≡ m .number → ⊥) → false ≡ soundIn m limit slip x
+  other-mode other = rw (budget-sound-in m limit slip x, ne-eqb (slip .mode) (m .number) other)
 
-and-false : (a : Bool) → false ≡ a && false
-and-false true = refl
-and-false false = refl
+  pub lines-long : length (m .page x) < slip .lines → false ≡ soundIn m limit slip x
+  lines-long long = rw (
+    budget-sound-in m limit slip x,
+    lt-leb (slip .lines) (length (m .page x)) long,
+    and-false (slip .mode =? m .number),
+  )
 
+  pub judged : slip .mode ≡ m .number → slip .lines ≤ length (m .page x)
+      → (m .idle (slip .lines) x
+      && (m .stands (waitingIn m slip x) && spentAll limit (budgetOf limit slip) (waitingIn m slip x) .enough))
+      ≡ soundIn m limit slip x
+  judged says fit = rw (
+    budget-sound-in m limit slip x,
+    eq-eqb (slip .mode) (m .number) says,
+    le-leb (slip .lines) (length (m .page x)) fit,
+  )
+
+-- ---- in the plain mode
 module _ (limit : ℕ) (slip : Slip) (page : List ℕ) where
-  -- ---- soundness
   abbrev zeros : Bool
   zeros = every (_=? 0) (drop (slip .lines) page)
 
-  pub lines-long : length page < slip .lines → false ≡ sound limit slip page
-  lines-long long = rw (budget-sound-page limit slip page, lt-leb (slip .lines) (length page) long)
-
-  module _ (fit : slip .lines ≤ length page) (b : Bool)
+  module _ (says : slip .mode ≡ 0) (fit : slip .lines ≤ length page) (b : Bool)
       (e : b ≡ spentAll limit (budgetOf limit slip) (waiting slip page) .enough) where
     decided : zeros && b ≡ sound limit slip page
-    decided =
-        ap (λ b. zeros && b) e
-        ∙ sym (budget-sound-page limit slip page ∙ rw (le-leb (slip .lines) (length page) fit))
+    decided = ap (λ b. zeros && b) e ∙ judged plainMode limit slip page says fit
 
     pub lines-dear : b ≡ false → false ≡ sound limit slip page
-    lines-dear short = and-false zeros ∙ ap (λ b. zeros && b) (sym short) ∙ decided
+    lines-dear short = sym (and-false zeros) ∙ ap (λ b. zeros && b) (sym short) ∙ decided
 
     pub then-zeros : b ≡ true → zeros ≡ sound limit slip page
-    then-zeros enough = and-true zeros ∙ ap (λ b. zeros && b) (sym enough) ∙ decided
+    then-zeros enough = sym (and-true zeros) ∙ ap (λ b. zeros && b) (sym enough) ∙ decided
 
   -- ---- why slip and page are refused
   pub long-page : pageLimit < length page → 6 ≡ firstOf (pageChecks limit slip page)

@@ -8,6 +8,7 @@ use Rattle.pages.proofs.pairs.common_degree.Reads as common-degree
 use Rattle.pages.proofs.soundness.budget.Reads as budget
 use Rattle.pages.proofs.soundness.spend.Reads as spend
 use Rattle.pages.proofs.soundness.refusal.Reads as refusal
+use Rattle.pages.proofs.gathering.refusal.Reads as gathered-refusal
 
 -- ---- lines
 pub line-minus-once : (κs : _) (a : _) (r r′ : _) (s s′ : _) → minus.Post κs a r s → minus.Post κs a r′ s′ → r ≡ r′
@@ -36,3 +37,8 @@ spend-once κs a r r′ s s′ p q = p ∙ sym q
 
 pub refusal-once : (κs : _) (a : _) (r r′ : _) (s s′ : _) → refusal.Post κs a r s → refusal.Post κs a r′ s′ → r ≡ r′
 refusal-once κs a r r′ s s′ p q = p ∙ sym q
+
+-- ---- gathering
+pub gathered-refusal-once : (κs : _) (a : _) (r r′ : _) (s s′ : _) → gathered-refusal.Post κs a r s
+    → gathered-refusal.Post κs a r′ s′ → r ≡ r′
+gathered-refusal-once κs a r r′ s s′ p q = p ∙ sym q

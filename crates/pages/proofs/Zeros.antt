@@ -1,32 +1,43 @@
--- A loop over words that are to be 0.
-use mathlib.Core.Path.{_≡_, refl}
+-- A loop over elements that are to pass a test, as words and coefficients are that are to be 0.
+use mathlib.Core.Path.{_≡_, sym}
+use mathlib.Core.Bool.{and-true}
 use Prim.Native.Nat.{_≤_, _<_}
 use native.Mathlib.Numerals.{add-one}
 use native.Mathlib.Omega.{arith}
 use borrow.Author.Tests.{eq-eqb, ne-eqb}
 use lib.ListN.{drop-of-length-le, length-drop}
 use lib.Seq.{drop-cons, take-all}
-use Rattle.theory.specs.Basics.{Bool, true, false, _&&_, List, length, getD, take, drop, ℕ, suc, _+_, _-_, _=?_, every}
+use Rattle.theory.specs.Basics.{Bool, true, false, List, length, getD, take, drop, ℕ, suc, _+_, _-_, _=?_, every}
 
-and-true : (b : Bool) → b ≡ b && true
-and-true true = refl
-and-true false = refl
+module _ {A : Type 0} (test : A → Bool) (none : A) (xs : List A) (i : ℕ) where
+  pub one-fails : i < length xs → test (getD xs i none) ≡ false → every test (drop i xs) ≡ false
+  one-fails h fails = rw (drop-cons xs i none h, fails)
 
+  pub one-passes : i < length xs → test (getD xs i none) ≡ true → every test (drop (i + 1) xs) ≡ every test (drop i xs)
+  one-passes h passes = rw (drop-cons xs i none h, passes, add-one)
+
+  pub last-one : i < length xs → length xs ≤ i + 1 → test (getD xs i none) ≡ every test (drop i xs)
+  last-one h end =
+      let after = drop-of-length-le xs {i = suc i} (omega arith) in
+      rw (drop-cons xs i none h, after) (sym (and-true (test (getD xs i none))))
+
+  pub none-left : length xs ≤ i → every test (drop i xs) ≡ true
+  none-left h = rw (drop-of-length-le xs h)
+
+-- ---- words that are to be 0
 module _ (xs : List ℕ) (i : ℕ) where
   pub not-zero : i < length xs → (getD xs i 0 ≡ 0 → ⊥) → every (_=? 0) (drop i xs) ≡ false
-  not-zero h some = rw (drop-cons xs i 0 h, ne-eqb (getD xs i 0) 0 some)
+  not-zero h some = one-fails (_=? 0) 0 xs i h (ne-eqb (getD xs i 0) 0 some)
 
   pub zero-next : i < length xs → getD xs i 0 ≡ 0 → every (_=? 0) (drop (i + 1) xs) ≡ every (_=? 0) (drop i xs)
-  zero-next h none = rw (drop-cons xs i 0 h, eq-eqb (getD xs i 0) 0 none, add-one)
+  zero-next h zero = one-passes (_=? 0) 0 xs i h (eq-eqb (getD xs i 0) 0 zero)
 
   pub last-word : i < length xs → length xs ≤ i + 1 → getD xs i 0 =? 0 ≡ every (_=? 0) (drop i xs)
-  last-word h end =
-      let none = drop-of-length-le xs {i = suc i} (omega arith) in
-      rw (drop-cons xs i 0 h, none) (and-true (getD xs i 0 =? 0))
+  last-word = last-one (_=? 0) 0 xs i
 
   pub no-word-left : length xs ≤ i → every (_=? 0) (drop i xs) ≡ true
-  no-word-left h = rw (drop-of-length-le xs h)
+  no-word-left = none-left (_=? 0) 0 xs i
 
--- the words from k on, as a call has them
-pub words-from : (page : List ℕ) (k : ℕ) → take (length page - k) (drop k page) ≡ drop k page
-words-from page k = take-all (length page - k) (drop k page) (omega (arith, length-drop k page))
+-- what lies from k on, as a call has it
+pub all-from : {A : Type 0} (xs : List A) (k : ℕ) → take (length xs - k) (drop k xs) ≡ drop k xs
+all-from xs k = take-all (length xs - k) (drop k xs) (omega (arith, length-drop k xs))

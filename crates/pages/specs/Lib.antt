@@ -2,7 +2,10 @@
 -- it states.
 pub mod Pairs
 pub mod Line
+pub mod Gathering
 pub mod Page
+pub mod Mode
 pub mod Sound
+pub mod Lawful
 pub mod Budget
 pub mod Private

@@ -4,7 +4,7 @@
 --   plain minus s c     a line of this sign, shape word and class word
 --   waiting slip page   the lines that wait; lineAt lines i, the line numbered i, from 0, and lineOf 0 past the end
 --   padded lines page   the words of the lines, and zeros after them, as long as the page
---   slipOf ..           a slip by its five fields; blank, all zeros
+--   slipOf ..           a slip by its six fields; blank, all zeros
 --   worth slip lines    what every step keeps: settled plus the signed characters of the waiting lines
 use lib.Signed.{nonNeg}
 use Rattle.theory.specs.Basics.{Bool, cond, List, _++_, map, length, getD, take, replicate, ℕ, _+_, _-_, _*_, _/_, _%_}
@@ -33,12 +33,12 @@ lineAt lines i = getD lines i (lineOf 0)
 abbrev pub padded : List Line → List ℕ → List ℕ
 padded lines page = map wordOf lines ++ replicate (length page - length lines) 0
 
-abbrev pub slipOf : ℕ → ℕ → ℤ → ℕ → ℤ → Slip
-slipOf shape class settled lines steps =
-    record { shape = shape; class = class; settled = settled; lines = lines; steps = steps }
+abbrev pub slipOf : ℕ → ℕ → ℤ → ℕ → ℤ → ℕ → Slip
+slipOf shape class settled lines steps mode =
+    record { shape = shape; class = class; settled = settled; lines = lines; steps = steps; mode = mode }
 
 abbrev pub blank : Slip
-blank = slipOf 0 0 (pos 0) 0 (pos 0)
+blank = slipOf 0 0 (pos 0) 0 (pos 0) 0
 
 unfoldable pub worth : Slip → List Line → ℤ
 worth slip lines = slip .settled +ℤ sum signedCharacter lines

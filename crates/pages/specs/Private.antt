@@ -1,3 +1,5 @@
 -- What only the code needs: definitions that the contracts of private functions cite. Nobody has to believe them.
 pub mod Degrees
+pub mod Differences
+pub mod Gathered
 pub mod Tables

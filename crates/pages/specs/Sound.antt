@@ -1,23 +1,27 @@
--- Sound slip and page (document 01, "Sound slip and page"; document 02, P6: "Slips and lines keep good words").
+-- Sound slip and page (document 01, "Sound slip and page"; document 02, P6: "Slips and lines keep good words"; P7,
+-- "Sound then counts each d! as often as the coefficient's size", "a slip of the other mode is 7").
 --   soundLine n l                 a good shape word and a good class word of one degree, 1 to n
 --   lineValue l, lineSpan l       what a line counts: d! as often as its weight's size, and S(d)
 --   soundWords limit slip         the slip's shape word is good, and the slip's words pass checks 1 to 5
 --   soundLines limit slip lines   what is asked of a slip and its lines, however these are written down
---   sound limit slip page         the same of the lines of a page that they fit, every word after them being 0
---   pageChecks ..                 the checks 6 and 7 of a slip and a page
+--   soundWith m ..                the same, and what the mode m asks of all lines together
+--   soundIn m limit slip x        the same of the lines of what is lent in the mode m, which they fit, all after them
+--                                 being 0, and of a slip that says this mode
+--   pageChecksIn m ..             the checks of what is lent, and 7
+--   sound, pageChecks             these in the plain mode: of a slip and a page, 6 and 7
 use lib.Signed.{nonNeg}
-use Rattle.theory.specs.Basics.{Bool, _&&_, List, [], _∷_, map, length, drop, ℕ, _+_, _*_, natAbs, _=?_, _≤?_, every}
+use Rattle.theory.specs.Basics.{Bool, _&&_, List, [], _∷_, _++_, map, length, ℕ, _+_, _*_, natAbs, _=?_, _≤?_, every}
 use Rattle.theory.specs.Basics.{total}
 use Rattle.theory.specs.Partition.{degree}
 use Rattle.theory.specs.ShapeWord.{goodShape, shapeOf}
 use Rattle.theory.specs.ClassWord.{goodClass, classOf}
 use Rattle.theory.specs.Bounds.{factorial, S}
-use Rattle.theory.specs.Refusals.{Check, firstOf, pairChecks, no-6, no-7}
+use Rattle.theory.specs.Refusals.{Check, firstOf, pairChecks, no-7}
 use Rattle.pages.specs.Line.{Line, lineDegree}
-use Rattle.pages.specs.Page.{waiting, Slip}
+use Rattle.pages.specs.Page.{Slip}
+use Rattle.pages.specs.Mode.{Mode, waitingIn, plainMode}
 pub mod Laws
 pub mod Bounds
-pub mod Padded
 
 unfoldable pub soundLine : ℕ → Line → Bool
 soundLine n l =
@@ -44,9 +48,20 @@ soundLines limit slip lines =
     n : ℕ
     n = degree (shapeOf (slip .shape))
 
-unfoldable pub sound : ℕ → Slip → List ℕ → Bool
-sound limit slip page =
-    slip .lines ≤? length page && every (_=? 0) (drop (slip .lines) page) && soundLines limit slip (waiting slip page)
+abbrev pub soundWith : Mode → ℕ → Slip → List Line → Bool
+soundWith m limit slip lines = m .stands lines && soundLines limit slip lines
+
+unfoldable pub soundIn : (m : Mode) → ℕ → Slip → m .Lent → Bool
+soundIn m limit slip x =
+    slip .mode =? m .number && slip .lines ≤? length (m .page x) && m .idle (slip .lines) x
+    && soundWith m limit slip (waitingIn m slip x)
+
+abbrev pub pageChecksIn : (m : Mode) → ℕ → Slip → m .Lent → List Check
+pageChecksIn m limit slip x = m .lentChecks x ++ no-7 (soundIn m limit slip x) ∷ []
+
+-- ---- in the plain mode
+abbrev pub sound : ℕ → Slip → List ℕ → Bool
+sound limit slip page = soundIn plainMode limit slip page
 
 abbrev pub pageChecks : ℕ → Slip → List ℕ → List Check
-pageChecks limit slip page = no-6 page ∷ no-7 (sound limit slip page) ∷ []
+pageChecks limit slip page = pageChecksIn plainMode limit slip page

@@ -1,21 +1,33 @@
 // Slips, pages and waiting lines (document 01, "Slip and page", "Sound slip and page"): how a page's word is read and
-// written, what a shape word and a class word have in common, and whether slip and page are sound. Every call takes
-// every input.
+// written, what a shape word and a class word have in common, and whether slip and page are sound, in either mode.
+// Every call takes every input.
 
+mod degrees;
+mod differences;
+pub mod gathering;
+mod idle;
 pub mod lines;
 pub mod pairs;
+mod paying;
 pub mod soundness;
 
 // The most words of a page.
 pub const PAGE_LIMIT: usize = 4096;
 
-// A session's slip: the shape and the class asked for, the settled sum, the number of lines that wait, the steps.
+// The numbers of the modes on a slip.
+pub const PLAIN: u32 = 0;
+
+pub const GATHERED: u32 = 1;
+
+// A session's slip: the shape and the class asked for, the settled sum, the number of lines that wait, the steps, and
+// the mode.
 pub struct Slip {
     pub shape: u32,
     pub class: u32,
     pub settled: i64,
     pub lines: usize,
     pub steps: i64,
+    pub mode: u32,
 }
 
 // What is left of n! and S(n), n being the degree that a slip asks for; all zeros where one does not suffice.

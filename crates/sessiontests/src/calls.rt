@@ -45,6 +45,7 @@ pub fn open(run: Slip, word: u64, page: &mut [u64; PAGE], twin: &mut [u64; PAGE]
         settled: 0,
         lines: 0,
         steps: 0,
+        mode: pages::PLAIN,
     };
     let handed = sessions::open(in_front(asked.shape, word), asked.class, page);
     let refused = handed.refused;

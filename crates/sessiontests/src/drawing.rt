@@ -38,6 +38,7 @@ pub fn asked(opens: bool, slip: Slip, word: u64) -> Slip {
             settled: slip.settled,
             lines: slip.lines ^ (turned(0, word >> 48) as usize),
             steps: slip.steps,
+            mode: slip.mode,
         };
     }
     let degree = below(word, 17);
@@ -54,6 +55,7 @@ pub fn asked(opens: bool, slip: Slip, word: u64) -> Slip {
         settled: 0,
         lines: 0,
         steps: 0,
+        mode: pages::PLAIN,
     }
 }
 

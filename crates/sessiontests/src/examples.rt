@@ -31,12 +31,13 @@ pub fn one_word() -> bool {
     let mut strip = [WORD; 3];
     let slip = sessions::open(0x2800_0000, 0x7000_0000, &mut page).slip;
     let unseen = told(sessions::preview(slip, &page, 0, 1, &mut short), 18, 0);
+    let kept = marked_words(&short);
     let seen = told(sessions::preview(slip, &page, 0, 1, &mut strip), 0, 2);
     let other = sessions::commit(slip, &mut page, 0, 1, &short).refused;
     let full = sessions::commit(slip, &mut page, 0, 1, &strip).refused;
     let front = (strip[0] == 0x1000_0000_6000_0000) & (strip[1] == 0x3000_0000_6000_0000);
     unseen
-        & marked_words(&short)
+        & kept
         & seen
         & front
         & (strip[2] == WORD)

@@ -117,6 +117,7 @@ pub fn all() -> [u64; SIZE] {
         settled: 1,
         lines: 0,
         steps: 0,
+        mode: pages::PLAIN,
     };
     let length = sessiontext::save(slip, &page, &mut text).count;
     sessiontext::save(slip, &twin, &mut other);

@@ -25,7 +25,10 @@ use Rattle.sessiontext.specs.declared.straight.LineAt.{LineAt}
 use Rattle.sessiontext.specs.declared.waiting.LineRead.{LineRead}
 use Rattle.sessiontext.specs.Reading.{lineIn, lineFaults}
 use Rattle.sessiontext.specs.Reading.Forms.{Waiting, is-waiting, waiting-is}
-use Rattle.sessiontext.specs.Reading.Exact.{line-storable}
+use Rattle.sessiontext.specs.Reading.Exact.{line-written}
+use Rattle.sessiontext.specs.SessionText.{plainForm}
+use Rattle.sessiontext.specs.SessionText.Faithful.Plain.{plain-faithful}
+use Rattle.pages.specs.Lawful.Plain.{plain-lawful}
 use Rattle.sessiontext.specs.Private.Read.{ReadWaiting, ReadNext, ReadLines}
 use Rattle.sessiontext.specs.Private.Stands.{LineStands}
 
@@ -34,7 +37,7 @@ small = omega arith
 
 -- ---- one line
 pub straight-read : {text : Text} {at : ℕ} {r : LineAt} → LineStands text at r → r .formed ≡ true → ReadNext text at r
-straight-read s f = record { ends = s .ends; formed = f ∙ sym (waiting-is (s .formed)); word = λ b. s .word }
+straight-read s f = record { ends = s .ends; formed = f ∙ sym (waiting-is plainForm degreeLimit _ (s .formed)); word = λ b. s .word }
 
 pub longer-read : {text : Text} {at end : ℕ} {r : LineRead} → end ≡ at + length (firstLine (drop at text))
     → ReadWaiting (take (end - at) (drop at text)) r
@@ -84,10 +87,11 @@ module _ (text : Text) (start : ℕ) (budget : Budget) where
 
     module _ (f : w .formed ≡ true) where
       its-line : lineOf (w .word) ≡ lineIn (firstLine (drop at text))
+      unfolding plain-faithful plain-lawful
       its-line =
-          let whole = is-waiting degreeLimit (firstLine (drop at text)) (sym (read .formed) ∙ f) in
+          let whole = is-waiting plainForm degreeLimit (firstLine (drop at text)) (sym (read .formed) ∙ f) in
           ap lineOf (read .word f)
-          ∙ line-read (lineIn (firstLine (drop at text))) (line-storable degreeLimit small whole .plain)
+          ∙ line-read (lineIn (firstLine (drop at text))) (line-written degreeLimit small plain-faithful whole)
 
       pub judged-next : {after : Budget} → after ≡ spentAll degreeLimit left (map lineOf (w .word ∷ []))
           → Judged (w .end) (count + 1) after
@@ -132,7 +136,7 @@ module _ (text : Text) (start : ℕ) (page : List ℕ) where
     split = rw (next-line .split h) at (p .formed)
 
     its-word : w .word ≡ wordOf (lineIn (firstLine (drop at text)))
-    its-word = read .word (read .formed ∙ waiting-is (split .0))
+    its-word = read .word (read .formed ∙ waiting-is plainForm degreeLimit _ (split .0))
 
     pub put-room : count < length after
     put-room = omega (arith, next-line .fewer h, p .room, p .same)

@@ -23,7 +23,7 @@ use Rattle.sessiontext.specs.declared.numbers.NumberRead.{NumberRead}
 use Rattle.sessiontext.specs.declared.numbers.IntegerRead.{IntegerRead}
 use Rattle.sessiontext.specs.declared.partitions.ShapeRead.{ShapeRead}
 use Rattle.sessiontext.specs.declared.partitions.ClassRead.{ClassRead}
-use Rattle.sessiontext.specs.Reading.{at, following, headFaults, slipIn}
+use Rattle.sessiontext.specs.Reading.{at, following, headFaults, slipIn, slipBy}
 use Rattle.sessiontext.specs.Private.Read.{ReadNumber, ReadShape, ReadClass, ReadSteps, ReadSettled, readChecks, ReadHead}
 
 -- ---- places
@@ -163,8 +163,8 @@ module _ (text : Text) {d : NumberRead} {s : ShapeRead} {k : ClassRead} {n z : I
     all-formed : fault ≡ 0 → Each (λ row. row .0 ≡ false) rows
     all-formed z = none-applies rows refl (sym fault-is ∙ z)
 
-    slip-read : fault ≡ 0 → slipOf (s .word) (k .word) (z .number) count (n .number) ≡ slipIn text
-    unfolding slipIn
+    slip-read : fault ≡ 0 → slipOf (s .word) (k .word) (z .number) count (n .number) 0 ≡ slipIn text
+    unfolding slipBy
     slip-read e =
         let a = all-formed e .1 .1 in
         rw (
@@ -183,7 +183,7 @@ module _ (text : Text) {d : NumberRead} {s : ShapeRead} {k : ClassRead} {n z : I
 
     pub head-read : {a b c e f end : ℕ} → Six text a b c e f end
         → ReadHead text
-        (record { fault = fault; slip = slipOf (s .word) (k .word) (z .number) count (n .number); end = end })
+        (record { fault = fault; slip = slipOf (s .word) (k .word) (z .number) count (n .number) 0; end = end })
     head-read six = record {
       first = fault-is ∙ rows-same;
       slip = slip-read;

@@ -7,9 +7,13 @@ mod Lists
 mod ListLines
 mod Counted
 mod WaitingLines
+mod CoefficientLines
 mod Standing
 mod Heads
+mod GatheredHeads
 mod AllLines
+mod Alongside
 mod Saving
 mod Loading
+mod GatheredLoading
 pub mod Unique

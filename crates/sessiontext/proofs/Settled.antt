@@ -22,8 +22,8 @@ use Rattle.sessiontext.specs.SessionText.{held}
 use Rattle.sessiontext.specs.SessionText.Room.{line-length}
 use Rattle.sessiontext.specs.Reading.{isInteger}
 use Rattle.sessiontext.specs.Reading.Forms.{is-integer, integer-is}
-use Rattle.sessiontext.specs.Reading.Fields.{held-below}
-use Rattle.sessiontext.specs.Private.Read.{ReadSigned, ReadSettled}
+use Rattle.sessiontext.specs.SessionText.Faithful.Gathered.{held-below}
+use Rattle.sessiontext.specs.Private.Read.{ReadSigned, ReadInteger, ReadSettled}
 use Rattle.sessiontext.proofs.NumberLines.{Compared}
 
 -- ---- a size with a sign
@@ -83,20 +83,28 @@ module _ (t : Text) {r : IntegerRead} (read : ReadSigned (holds 45 t) (min (numb
   unfolding integerIn
   its-held h = read .formed ∙ rw (not-cut (holds 45 t) (numberIn t) h) h
 
+  its-number : r .formed ≡ true → r .number ≡ integerIn t
+  unfolding integerIn
+  its-number f =
+      let whole = uncut (holds 45 t) (numberIn t) (sym (read .formed) ∙ f) in
+      read .number f ∙ rw whole refl
+
+  pub integer-read : ReadInteger t r
+  integer-read = record {
+    formed = same-test (r .formed) (held (integerIn t))
+        (λ f. ap held (sym (its-number f) ∙ read .number f) ∙ sym (read .formed) ∙ f) its-held;
+    number = its-number;
+  }
+
+module _ (t : Text) {r : IntegerRead} (read : ReadInteger t r) where
   pub settled-large : r .formed ≡ false → ReadSettled t unheld
   settled-large e = record {
     formed = same-test false (isInteger (ascii "settled=") t) (λ b. absurd (false≢true b))
-        (λ f. absurd (false≢true (sym e ∙ its-held (is-integer (ascii "settled=") t f .fits))));
+        (λ f. absurd (false≢true (sym e ∙ read .formed ∙ is-integer (ascii "settled=") t f .fits)));
     number = λ b. absurd (false≢true b);
   }
 
   module _ (f : r .formed ≡ true) where
-    pub its-number : r .number ≡ integerIn t
-    unfolding integerIn
-    its-number =
-        let whole = uncut (holds 45 t) (numberIn t) (sym (read .formed) ∙ f) in
-        read .number f ∙ rw whole refl
-
     fits : held (r .number) ≡ true
     fits = ap held (read .number f) ∙ sym (read .formed) ∙ f
 
@@ -112,7 +120,7 @@ module _ (t : Text) {r : IntegerRead} (read : ReadSigned (holds 45 t) (min (numb
         → ReadSettled t (record { formed = b; number = r .number })
     settled-read {b} c = record {
       formed = same-test b (isInteger (ascii "settled=") t)
-          (λ e. integer-is (record { fits = ap held (sym its-number) ∙ fits; whole = rw (← its-number) (c .0 e) }))
-          (λ e. c .1 (rw its-number (is-integer (ascii "settled=") t e .whole)));
-      number = λ e. its-number;
+          (λ e. integer-is (record { fits = sym (read .formed) ∙ f; whole = rw (← read .number f) (c .0 e) }))
+          (λ e. c .1 (rw (read .number f) (is-integer (ascii "settled=") t e .whole)));
+      number = λ e. read .number f;
     }

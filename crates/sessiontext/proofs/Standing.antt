@@ -10,7 +10,8 @@ use native.Mathlib.Omega.{arith}
 use lib.ListN.{List·getD-eq-default, set, length-set, length-append, length-drop, take-append-drop}
 use lib.Seq.{drop-cons, drop-drop, take-suc-set}
 use Rattle.theory.specs.Basics.{Bool, true, false, _<?_, List, [], _∷_, _++_, map, length, getD, take, drop, joined}
-use Rattle.theory.specs.Basics.{ℕ, _+_, _-_, _/_, _%_, _^_}
+use Rattle.theory.specs.Basics.{ℕ, _+_, _-_, _/_, _%_, _^_, ℤ, pos, signed}
+use Rattle.theory.specs.Bounds.Laws.{abs-signed}
 use Rattle.theory.specs.Partition.{Parts}
 use Rattle.theory.specs.Digits.{width}
 use Rattle.theory.specs.ShapeWord.{shapeWord}
@@ -26,9 +27,12 @@ use Rattle.text.specs.Reading.Lines.{Line, line-first}
 use Rattle.pages.specs.Page.{wordOf, plain}
 use Rattle.sessiontext.specs.declared.straight.ListAt.{ListAt}
 use Rattle.sessiontext.specs.declared.straight.WordAt.{WordAt}
-use Rattle.sessiontext.specs.SessionText.{signText, waitingText}
+use Rattle.sessiontext.specs.SessionText.{signText, waitingText, weightedText}
 use Rattle.sessiontext.specs.Reading.Fields.{waiting-formed, waiting-same}
 use Rattle.sessiontext.specs.Reading.Back.{waiting-line}
+use Rattle.sessiontext.specs.Reading.{lineIn}
+use Rattle.sessiontext.specs.Reading.Forms.{InLimit, Waiting}
+use Rattle.sessiontext.specs.SessionText.Faithful.Plain.{plain-faithful, sign-read}
 use Rattle.sessiontext.specs.Private.Stands.{Stands, ListStands, WordStands, LineStands}
 use Rattle.sessiontext.proofs.Lists.{word-within}
 use Rattle.sessiontext.proofs.WaitingLines.{shape-kept}
@@ -169,26 +173,46 @@ module _ {text : Text} {at : ℕ} (inside : at ≤ length text) (minus : Bool)
   line = waitingText minus (shape .parts) (class .parts)
 
   whole : Stands line text at (c .end)
-  unfolding waitingText
+  unfolding weightedText
   whole =
       rw (← regrouped (ascii "line=") (signText minus) (ascii ";") (listText (shape .parts)) (listText (class .parts))
       (ascii "\n"))
       (stands-then (stands-then front (shape .stands)) (class .stands))
 
+  abbrev weight : ℤ
+  weight = signed minus (pos 1)
+
+  its-line : Line line
+  its-line =
+      rw (sign-read minus) at (waiting-line plain-faithful weight (shape .parts) (class .parts))
+
+  module _ (i : InLimit degreeLimit (shape .parts)) (j : InLimit degreeLimit (class .parts)) where
+    signed-formed : Waiting degreeLimit line
+    unfolding plain-faithful
+    signed-formed =
+        rw (sign-read minus) at
+        (waiting-formed degreeLimit small (shape .parts) (class .parts) i j plain-faithful weight (abs-signed minus (pos 1)))
+
+    signed-same : lineIn line ≡ plain minus (shapeWord (shape .parts)) (classWord (class .parts))
+    unfolding plain-faithful
+    signed-same =
+        rw (sign-read minus) at
+        (waiting-same degreeLimit small (shape .parts) (class .parts) i j plain-faithful weight (abs-signed minus (pos 1)))
+
   pub line-stands : {word : ℕ} → word ≡ wordOf (plain minus (s .word % 2 ^ 31) (c .word))
       → LineStands text at (record { formed = true; word = word; end = c .end })
   line-stands w =
-      let first = first-line whole (waiting-line minus (shape .parts) (class .parts)) in
+      let first = first-line whole its-line in
       let i = shape .within in
       let j = class .within in
       let cut = ap length (whole .whole) in
       record {
-        formed = rw first (waiting-formed degreeLimit small (shape .parts) (class .parts) i j minus);
+        formed = rw first (signed-formed i j);
         word =
             w
             ∙ rw (
               first,
-              waiting-same degreeLimit small (shape .parts) (class .parts) i j minus,
+              signed-same i j,
               shape .word,
               class .word,
               shape-kept (shape .parts),

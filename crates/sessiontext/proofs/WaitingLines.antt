@@ -26,10 +26,11 @@ use Rattle.pages.specs.Page.{wordOf}
 use Rattle.pages.specs.Page.{plain}
 use Rattle.sessiontext.specs.declared.partitions.PartsRead.{PartsRead}
 use Rattle.sessiontext.specs.declared.waiting.LineParts.{LineParts}
-use Rattle.sessiontext.specs.SessionText.{waitingText}
+use Rattle.sessiontext.specs.SessionText.{plainForm, waitingText}
+use Rattle.sessiontext.specs.SessionText.Faithful.Plain.{sign-read as sign-told}
 use Rattle.sessiontext.specs.SessionText.Room.{lineRoom, waiting-short}
-use Rattle.sessiontext.specs.Reading.{inLimit, minusIn, shapeIn, classIn, isWaiting, lineIn}
-use Rattle.sessiontext.specs.Reading.Forms.{InLimit, in-limit, limit-in, is-waiting, waiting-is}
+use Rattle.sessiontext.specs.Reading.{inLimit, minusIn, shapeIn, classIn, isWaiting, lineIn, lineBy}
+use Rattle.sessiontext.specs.Reading.Forms.{InLimit, in-limit, limit-in, is-waiting, waiting-is, signed-whole}
 use Rattle.sessiontext.specs.Private.Read.{ReadParts, ReadLine, ReadWaiting}
 use Rattle.sessiontext.proofs.NumberLines.{Compared}
 use Rattle.sessiontext.proofs.Settled.{found-minus}
@@ -109,7 +110,7 @@ module _ {t : Text} {rows cycles : List ℕ} {r q : PartsRead} (shape : ReadPart
       → word ≡ wordOf (plain minus (r .word % 2 ^ 31) (q .word))
       → ReadLine t
       (record { formed = formed; minus = minus; rows = r .count; cycles = q .count; word = word }) rows cycles
-  unfolding lineIn
+  unfolding lineBy
   line-parts {minus} {formed} {word} m f w =
       let first : formed ≡ true → r .formed ≡ true = λ e. both (r .formed) (q .formed) (sym f ∙ e) .0 in
       let second : formed ≡ true → q .formed ≡ true = λ e. both (r .formed) (q .formed) (sym f ∙ e) .1 in
@@ -125,7 +126,7 @@ module _ {t : Text} {rows cycles : List ℕ} {r q : PartsRead} (shape : ReadPart
 
 -- ---- comparing
 module _ {t : Text} {r : LineParts} {rows cycles : List ℕ} (read : ReadLine t r rows cycles) where
-  its-limits : r .formed ≡ true → InLimit degreeLimit (shapeIn t) × InLimit degreeLimit (classIn t)
+  pub its-limits : r .formed ≡ true → InLimit degreeLimit (shapeIn t) × InLimit degreeLimit (classIn t)
   its-limits f =
       let l = both (inLimit degreeLimit (shapeIn t)) (inLimit degreeLimit (classIn t)) (sym (read .formed) ∙ f) in
       (in-limit degreeLimit (shapeIn t) (l .0), in-limit degreeLimit (classIn t) (l .1))
@@ -133,7 +134,7 @@ module _ {t : Text} {r : LineParts} {rows cycles : List ℕ} (read : ReadLine t 
   pub waiting-unread : r .formed ≡ false → ReadWaiting t (record { formed = false; word = 0 })
   waiting-unread e = record {
     formed = same-test false (isWaiting degreeLimit t) (λ b. absurd (false≢true b))
-        (λ b. let w = is-waiting degreeLimit t b in
+        (λ b. let w = is-waiting plainForm degreeLimit t b in
         absurd (false≢true (sym e ∙ read .formed ∙ rw (limit-in (w .shape), limit-in (w .class)) refl)));
     word = λ b. absurd (false≢true b);
   }
@@ -146,7 +147,12 @@ module _ {t : Text} {r : LineParts} {rows cycles : List ℕ} (read : ReadLine t 
         → ReadWaiting t (record { formed = b; word = r .word })
     waiting-read {b} c = record {
       formed = same-test b (isWaiting degreeLimit t)
-          (λ e. waiting-is (record { shape = its-limits f .0; class = its-limits f .1; whole = c .0 e }))
-          (λ w. c .1 (is-waiting degreeLimit t w .whole));
+          (λ e. waiting-is plainForm degreeLimit t (record {
+            fits = refl;
+            shape = its-limits f .0;
+            class = its-limits f .1;
+            whole = c .0 e ∙ ap (λ b. waitingText b (shapeIn t) (classIn t)) (sym (sign-told (minusIn t)));
+          }))
+          (λ w. c .1 (signed-whole (is-waiting plainForm degreeLimit t w)));
       word = λ e. read .word f;
     }

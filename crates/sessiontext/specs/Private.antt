@@ -2,3 +2,4 @@
 pub mod Lengths
 pub mod Read
 pub mod Stands
+pub mod Weighted

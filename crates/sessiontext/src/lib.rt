@@ -10,16 +10,20 @@ ghost use Rattle.sessiontext.specs.SessionText.{sessionText};
 ghost use Rattle.sessiontext.specs.SessionText.Storable.{Storable};
 ghost use Rattle.sessiontext.specs.Calls.{loaded, saveInto, loadInto};
 use pages::PAGE_LIMIT;
+use pages::PLAIN;
 use pages::Slip;
 use pages::soundness;
 use words::CountAnswer;
 
+mod coefficients;
+pub mod gathered;
 mod lengths;
 mod numbers;
 mod partitions;
 mod reading;
 mod straight;
 mod waiting;
+mod weighted;
 mod writing;
 
 // How many bytes are enough for the first six lines of a text.
@@ -82,6 +86,7 @@ fn unloaded(number: u8, line: usize) -> Loaded
             settled: 0,
             lines: 0,
             steps: 0,
+            mode: PLAIN,
         },
     }
 }

@@ -1,6 +1,7 @@
 // Lines of a name and a number: what is read off each, and whether it is of its form. What was read is written out and
 // compared with the line.
-ghost use Rattle.sessiontext.specs.Private.Read.{Named, ReadNumber, ReadSigned, ReadSteps, ReadSettled};
+ghost use Rattle.sessiontext.specs.Private.Read.{Named, ReadNumber, ReadSigned, ReadInteger, ReadSteps};
+ghost use Rattle.sessiontext.specs.Private.Read.{ReadSettled};
 use text::fields;
 use text::reading;
 
@@ -79,13 +80,20 @@ fn signed(minus: bool, size: u64) -> IntegerRead
     }
 }
 
+// The number with a sign that stands in a text, whatever its form, where 64 bits hold it.
+pub fn integer_in(text: &[u8]) -> IntegerRead
+    ensures { λ r. ⌜ ReadInteger (now (text .entry)) r ⌝ }
+{
+    let size = reading::number_in(text);
+    let minus = reading::find(45, text, 0) < text.len();
+    signed(minus, size)
+}
+
 // The settled sum.
 pub fn settled(line: &[u8]) -> IntegerRead
     ensures { λ r. ⌜ ReadSettled (now (line .entry)) r ⌝ }
 {
-    let size = reading::number_in(line);
-    let minus = reading::find(45, line, 0) < line.len();
-    let read = signed(minus, size);
+    let read = integer_in(line);
     if !read.formed {
         return IntegerRead {
             formed: false,

@@ -8,6 +8,7 @@ use super::numbers;
 use super::numbers::NumberRead;
 use super::partitions;
 use super::partitions::ShapeRead;
+use pages::PLAIN;
 use pages::Slip;
 use text::fields;
 use text::reading;
@@ -94,6 +95,7 @@ pub fn head(text: &[u8]) -> HeadRead
             settled: settled.number,
             lines: count,
             steps: steps.number,
+            mode: PLAIN,
         },
         end,
     }

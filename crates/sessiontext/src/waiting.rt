@@ -53,7 +53,7 @@ fn past(place: usize, text: &[u8]) -> usize
     text.len()
 }
 
-fn both(a: bool, b: bool) -> bool
+pub fn both(a: bool, b: bool) -> bool
     ensures { λ r. ⌜ r ≡ (a && b) ⌝ }
 {
     if a { b } else { false }
@@ -61,7 +61,7 @@ fn both(a: bool, b: bool) -> bool
 
 // What stands in the text of a waiting line, whatever its form: the shape's parts and the class's at the front of two
 // columns, if both are partitions within the limit, and the word of the line.
-fn parts_in(line: &[u8], rows: &mut [u8], cycles: &mut [u8]) -> LineParts
+pub fn parts_in(line: &[u8], rows: &mut [u8], cycles: &mut [u8]) -> LineParts
     requires { ⌜ (length (now rows) ≡ 16) × (length (now cycles) ≡ 16) ⌝ }
     ensures { λ r. ⌜ ReadLine (now (line .entry)) r (now (rows .exit)) (now (cycles .exit)) ⌝ }
 {

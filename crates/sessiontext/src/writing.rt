@@ -10,8 +10,8 @@ ghost use Rattle.theory.specs.Limits.{degreeLimit};
 ghost use Rattle.theory.specs.Refusals.Laws.{Within, WithinClass};
 ghost use Rattle.text.specs.Text.{decimal, listText, field};
 ghost use Rattle.text.specs.Wrote.{Wrote};
-ghost use Rattle.sessiontext.specs.SessionText.{held, signText, valueText, waitingText, lineText, sessionText};
-ghost use Rattle.sessiontext.specs.SessionText.Laws.{askedText, reachedText};
+ghost use Rattle.sessiontext.specs.SessionText.{held, signText, waitingText, lineText, sessionText};
+ghost use Rattle.sessiontext.specs.SessionText.Laws.{askedText, reachedText, behindText};
 ghost use Rattle.sessiontext.specs.SessionText.Storable.{StorableLine, Forward, Storable};
 ghost use Rattle.pages.specs.Page.{lineOf};
 use pages::Slip;
@@ -32,16 +32,16 @@ fn sign(minus: bool, out: &mut [u8], at: usize) -> usize
     writing::byte(43, out, at)
 }
 
-// A sign, a shape and a class, set apart by semicolons.
-fn value(minus: bool, shape: &[u8], class: &[u8], out: &mut [u8], at: usize) -> usize
-    ensures { λ r. ⌜ Wrote (valueText minus (now (shape .entry)) (now (class .entry)))
+// What stands behind the weight of a waiting line: shape and class, a semicolon in front of each, and the newline.
+pub fn behind(shape: &[u8], class: &[u8], out: &mut [u8], at: usize) -> usize
+    ensures { λ r. ⌜ Wrote (behindText (now (shape .entry)) (now (class .entry)))
         at (now (out .entry)) r (now (out .exit)) ⌝ }
 {
-    let end = sign(minus, out, at);
-    let end = writing::byte(59, out, end);
+    let end = writing::byte(59, out, at);
     let end = lists::list(shape, out, end);
     let end = writing::byte(59, out, end);
-    lists::list(class, out, end)
+    let end = lists::list(class, out, end);
+    writing::byte(10, out, end)
 }
 
 // The line of text for a waiting line, by its sign, shape and class.
@@ -50,8 +50,21 @@ pub fn waiting(minus: bool, shape: &[u8], class: &[u8], out: &mut [u8], at: usiz
         at (now (out .entry)) r (now (out .exit)) ⌝ }
 {
     let end = writing::put(b"line=", out, at);
-    let end = value(minus, shape, class, out, end);
-    writing::byte(10, out, end)
+    let end = sign(minus, out, end);
+    behind(shape, class, out, end)
+}
+
+// What stands behind the weight of a waiting line, by the line's word.
+pub fn words_behind(line: u64, out: &mut [u8], at: usize) -> usize
+    requires { ⌜ Within degreeLimit (lineOf line .shape) × WithinClass degreeLimit (lineOf line .class) ⌝ }
+    ensures { λ r. ⌜ Wrote (behindText (shapeOf (lineOf line .shape)) (classOf (lineOf line .class)))
+        at (now (out .entry)) r (now (out .exit)) ⌝ }
+{
+    let mut shape = [0u8; 16];
+    let rows = words::shapes::parts(lines::shape(line), &mut shape).count;
+    let mut class = [0u8; 16];
+    let cycles = words::classes::parts(lines::class(line), &mut class).count;
+    behind(&shape[..rows], &class[..cycles], out, at)
 }
 
 // The line of text for a waiting line.
@@ -59,23 +72,16 @@ fn line(line: u64, out: &mut [u8], at: usize) -> usize
     requires { ⌜ StorableLine degreeLimit (lineOf line) ⌝ }
     ensures { λ r. ⌜ Wrote (lineText (lineOf line)) at (now (out .entry)) r (now (out .exit)) ⌝ }
 {
-    let mut shape = [0u8; 16];
-    let rows = words::shapes::parts(lines::shape(line), &mut shape).count;
-    let mut class = [0u8; 16];
-    let cycles = words::classes::parts(lines::class(line), &mut class).count;
-    waiting(
-        lines::minus(line),
-        &shape[..rows],
-        &class[..cycles],
-        out,
-        at,
-    )
+    let end = writing::put(b"line=", out, at);
+    let end = sign(lines::minus(line), out, end);
+    words_behind(line, out, end)
 }
 
 // The lines of text for waiting lines.
 fn all(lines: &[u64], out: &mut [u8], at: usize) -> usize
     requires { ⌜ Each (StorableLine degreeLimit) (map lineOf (now lines)) ⌝ }
-    ensures { λ r. ⌜ Wrote (joined lineText (map lineOf (now (lines .entry)))) at (now (out .entry)) r (now (out .exit)) ⌝ }
+    ensures { λ r. ⌜ Wrote (joined lineText (map lineOf (now (lines .entry))))
+        at (now (out .entry)) r (now (out .exit)) ⌝ }
 {
     let mut end = at;
     let mut i = 0;

@@ -10,6 +10,7 @@ use Rattle.theory.specs.ShapeWord.{shifted}
 pub mod Walk
 pub mod Laws
 pub mod Words
+pub mod Apart
 pub mod Betas
 pub mod Rule
 pub mod Evaluation

@@ -1,8 +1,8 @@
 -- Numbers that refuse (document 01, the table and "Order"; document 02, each request's refusals). A check is a test and
 -- the number that it refuses with.
 --   no-1 .. no-15       the rows of the table, each once, no-1 as P6 has it; no-16 and no-17, those of P1; no-18 and
---                       no-19, those of P3; no-20, that of P5; no-1-good, 1 of a word that has to be good (P6, "save
---                       in P5")
+--                       no-19, those of P3; no-20, that of P5; no-21, that of P7; no-1-good, 1 of a word that has to
+--                       be good (P6, "save in P5")
 --   firstOf checks      the number of the first check whose test applies, 0 if none does
 --   refusedOr k f x     f k, which refuses with the number k, or x where k is 0
 --   shapeChecks         the checks of a single call on a shape word; classChecks, on a class word; pairChecks, on both
@@ -87,6 +87,10 @@ no-19 preview strip = (not (same preview (take (length preview) strip)), 19)
 -- unequal lengths, or more than a list may have
 abbrev pub no-20 : List ℕ → List ℕ → Check
 no-20 given lent = (not (length given =? length lent && length given ≤? listLimit), 20)
+
+-- a column of coefficients that is not as long as the page
+abbrev pub no-21 : {A B : Type 0} → List A → List B → Check
+no-21 page column = (not (length page =? length column), 21)
 
 -- ---- the order
 abbrev pub firstOf : List Check → ℕ

@@ -3,7 +3,8 @@
 --   at-hand slip page counted saves   a run stands so, its slip and page those that an export was handed
 use mathlib.Core.Path.{_≡_}
 use denote.Ref.{now}
-use Rattle.theory.specs.Basics.{List, [], _∷_, ℕ}
+use Rattle.theory.specs.Basics.{List, [], _∷_, ℕ, ℤ}
+use Rattle.sessiontext.specs.SessionText.{plainForm, gatheredForm}
 use Rattle.sessiontext.specs.Run.{Saves, countsAt, Standing, standing, after, begun}
 use Rattle.zembrusha.specs.declared.Slip.{Slip}
 use Rattle.zembrusha.specs.Exports.{given}
@@ -15,22 +16,30 @@ use Rattle.zembrusha.proofs.sessions.zembrusha_commit.Reads as commit-e
 use Rattle.zembrusha.proofs.sessions.zembrusha_watch_whole.Reads as whole-export
 use Rattle.zembrusha.proofs.sessions.zembrusha_watch_ratio.Reads as ratio-export
 use Rattle.zembrusha.proofs.sessions.zembrusha_watch_refusal.Reads as refusal-export
+use Rattle.zembrusha.proofs.gatherings.zembrusha_gathered_open.Reads as gathered-open-export
+use Rattle.zembrusha.proofs.gatherings.zembrusha_gathered_preview.Reads as gathered-preview-export
+use Rattle.zembrusha.proofs.gatherings.zembrusha_gathered_commit.Reads as gathered-commit-export
+use Rattle.zembrusha.proofs.gatherings.zembrusha_gathered_watch_whole.Reads as gathered-whole-export
+use Rattle.zembrusha.proofs.gatherings.zembrusha_gathered_watch_ratio.Reads as gathered-ratio-export
+use Rattle.zembrusha.proofs.gatherings.zembrusha_gathered_watch_refusal.Reads as gathered-refusal-export
+use Rattle.zembrusha.proofs.gatherings.zembrusha_gathered_save.Reads as gathered-save-export
+use Rattle.zembrusha.proofs.gatherings.zembrusha_gathered_load.Reads as gathered-load-export
 use Rattle.zembrusha.proofs.texts.zembrusha_save.Reads as save-export
 use Rattle.zembrusha.proofs.texts.zembrusha_load.Reads as load-export
 
-module _ (calls : List Call) (end : Standing) where
+module _ (calls : List (Call (List ℕ))) (end : Standing (List ℕ)) where
   pub session-opens : (κs : _) (a : _) (r : _) (s : _) → open-export.Post κs a r s → r .refused ≡ 0
-      → Run (begun (given (r .slip)) (now (s .1 .1 .0))) calls end
-      → Session (a .0) (a .1 .0) (now (a .1 .1 .0)) calls end
+      → Run plainForm (begun (given (r .slip)) (now (s .1 .1 .0))) calls end
+      → Session plainForm (a .0) (a .1 .0) (now (a .1 .1 .0)) calls end
   session-opens κs a r s o accepted run =
-      record { answer = r; page = now (s .1 .1 .0); promised = o; accepted = accepted; goes-on = run }
+      record { answer = r; lent = now (s .1 .1 .0); promised = o; accepted = accepted; goes-on = run }
 
   -- a call in front of a run that goes on from where it leads
-  abbrev InFront : Standing → Call → Type 0
-  InFront at call = Run (after at (theirNext at call)) calls end → Run at (call ∷ calls) end
+  abbrev InFront : Standing (List ℕ) → Call (List ℕ) → Type 0
+  InFront at call = Run plainForm (after at (theirNext plainForm at call)) calls end → Run plainForm at (call ∷ calls) end
 
   module _ (counted : ℕ) (saves : Saves) where
-    abbrev at-hand : Slip → List ℕ → Standing
+    abbrev at-hand : Slip → List ℕ → Standing (List ℕ)
     at-hand slip page = standing (given slip) page counted saves
 
     pub run-opens : (κs : _) (a : _) (r : _) (s : _) (u : Slip) → open-export.Post κs a r s → (r .refused ≡ 0 → ⊥)
@@ -76,3 +85,79 @@ module _ (calls : List Call) (end : Standing) where
         → InFront (at-hand u (now (a .1 .0))) (loaded (now (a .0)) r (now (s .1 .0)))
     unfolding Run
     run-loads κs a r s u o known run = (o, known, run)
+
+-- ---- in the gathered mode
+abbrev Lent : Type 0
+Lent = List ℕ × List ℤ
+
+module _ (calls : List (Call Lent)) (end : Standing Lent) where
+  pub gathered-session-opens : (κs : _) (a : _) (r : _) (s : _) → gathered-open-export.Post κs a r s → r .refused ≡ 0
+      → Run gatheredForm (begun (given (r .slip)) (now (s .1 .1 .0), now (s .1 .1 .1 .0))) calls end
+      → Session gatheredForm (a .0) (a .1 .0) (now (a .1 .1 .0), now (a .1 .1 .1 .0)) calls end
+  gathered-session-opens κs a r s o accepted run =
+      record {
+        answer = r;
+        lent = (now (s .1 .1 .0), now (s .1 .1 .1 .0));
+        promised = o;
+        accepted = accepted;
+        goes-on = run;
+      }
+
+  abbrev GatheredInFront : Standing Lent → Call Lent → Type 0
+  GatheredInFront at call =
+      Run gatheredForm (after at (theirNext gatheredForm at call)) calls end → Run gatheredForm at (call ∷ calls) end
+
+  module _ (counted : ℕ) (saves : Saves) where
+    abbrev gathered-at-hand : Slip → List ℕ → List ℤ → Standing Lent
+    gathered-at-hand slip page column = standing (given slip) (page, column) counted saves
+
+    pub gathered-run-opens : (κs : _) (a : _) (r : _) (s : _) (u : Slip) → gathered-open-export.Post κs a r s
+        → (r .refused ≡ 0 → ⊥)
+        → GatheredInFront (gathered-at-hand u (now (a .1 .1 .0)) (now (a .1 .1 .1 .0)))
+        (opened (a .0) (a .1 .0) r (now (s .1 .1 .0), now (s .1 .1 .1 .0)))
+    unfolding Run
+    gathered-run-opens κs a r s u o refused run = (o, refused, run)
+
+    pub gathered-run-previews : (κs : _) (a : _) (r : _) (s : _) → gathered-preview-export.Post κs a r s
+        → GatheredInFront (gathered-at-hand (a .0) (now (a .1 .0)) (now (a .1 .1 .0)))
+        (previewed (a .1 .1 .1 .0) (a .1 .1 .1 .1 .0) (now (a .1 .1 .1 .1 .1 .0)) r (now (s .1 .1 .1 .1 .1 .0)))
+    unfolding Run
+    gathered-run-previews κs a r s o run = (o, tt, run)
+
+    pub gathered-run-commits : (κs : _) (a : _) (r : _) (s : _) → gathered-commit-export.Post κs a r s
+        → GatheredInFront (gathered-at-hand (a .0) (now (a .1 .0)) (now (a .1 .1 .0)))
+        (committed (a .1 .1 .1 .0) (a .1 .1 .1 .1 .0) (now (a .1 .1 .1 .1 .1 .0)) r (now (s .1 .0), now (s .1 .1 .0)))
+    unfolding Run
+    gathered-run-commits κs a r s o run = (o, tt, run)
+
+    pub gathered-run-watches-whole : (κs : _) (a : _) (r : _) (s : _) → gathered-whole-export.Post κs a r s
+        → GatheredInFront (gathered-at-hand (a .0) (now (a .1 .0)) (now (a .1 .1 .0)))
+        (watched-whole (a .1 .1 .1 .0) (a .1 .1 .1 .1 .0) r)
+    unfolding Run
+    gathered-run-watches-whole κs a r s o run = (o, tt, run)
+
+    pub gathered-run-watches-ratio : (κs : _) (a : _) (r : _) (s : _) → gathered-ratio-export.Post κs a r s
+        → GatheredInFront (gathered-at-hand (a .0) (now (a .1 .0)) (now (a .1 .1 .0)))
+        (watched-ratio (a .1 .1 .1 .0) (a .1 .1 .1 .1 .0) r)
+    unfolding Run
+    gathered-run-watches-ratio κs a r s o run = (o, tt, run)
+
+    pub gathered-run-watches-refusal : (κs : _) (a : _) (r : _) (s : _) → gathered-refusal-export.Post κs a r s
+        → GatheredInFront (gathered-at-hand (a .0) (now (a .1 .0)) (now (a .1 .1 .0)))
+        (watched-refusal (a .1 .1 .1 .0) (a .1 .1 .1 .1 .0) r)
+    unfolding Run
+    gathered-run-watches-refusal κs a r s o run = (o, tt, run)
+
+    pub gathered-run-saves : (κs : _) (a : _) (r : _) (s : _) → gathered-save-export.Post κs a r s
+        → GatheredInFront (gathered-at-hand (a .0) (now (a .1 .0)) (now (a .1 .1 .0)))
+        (saved (now (a .1 .1 .1 .0)) r (now (s .1 .1 .1 .0)))
+    unfolding Run
+    gathered-run-saves κs a r s o run = (o, tt, run)
+
+    -- a load that is refused, or of a text that was saved in the run
+    pub gathered-run-loads : (κs : _) (a : _) (r : _) (s : _) (u : Slip) → gathered-load-export.Post κs a r s
+        → (r .refused ≡ 0 → countsAt (now (a .0)) saves ≡ [] → ⊥)
+        → GatheredInFront (gathered-at-hand u (now (a .1 .0)) (now (a .1 .1 .0)))
+        (loaded (now (a .0)) r (now (s .1 .0), now (s .1 .1 .0)))
+    unfolding Run
+    gathered-run-loads κs a r s u o known run = (o, known, run)

@@ -1,15 +1,18 @@
 -- No second outcome meets a contract. Each theorem is of the contract itself, as Rattle reads it (`Reads.Post`).
 use mathlib.Core.Path.{_≡_, sym, _∙_, ap}
 use denote.Ref.{now}
+use Rattle.theory.specs.Basics.{List, ℕ, ℤ}
 use Rattle.theory.specs.Limits.{degreeLimit}
 use Rattle.words.specs.Answers.Laws.{one-outcome}
 use Rattle.words.specs.declared.NumberAnswer.{NumberAnswer}
 use Rattle.words.specs.Calls.{shapePartsInto, classPartsInto, shapesFromOld, shapesToOld}
 use Rattle.words.specs.Calls.Laws.{one-period-told}
 use Rattle.characters.specs.Calls.{columnInto}
-use Rattle.characters.specs.Opening.{opening}
-use Rattle.characters.specs.Step.{preview, commit}
-use Rattle.sessiontext.specs.Calls.{saveInto, loadInto}
+use Rattle.pages.specs.Mode.{gatheredMode}
+use Rattle.characters.specs.Opening.{openingIn, opening}
+use Rattle.characters.specs.Step.{previewIn, commitIn, preview, commit}
+use Rattle.sessiontext.specs.SessionText.{gatheredForm}
+use Rattle.sessiontext.specs.Calls.{saveBy, loadBy, saveInto, loadInto}
 use Rattle.zembrusha.specs.Exports.{counted, listed, given, handedRun, loadedRun}
 use Rattle.zembrusha.proofs.singles.zembrusha_character.Reads as character
 use Rattle.zembrusha.proofs.singles.zembrusha_character_refusal.Reads as character-refusal
@@ -39,8 +42,22 @@ use Rattle.zembrusha.proofs.sessions.zembrusha_commit.Reads as committe
 use Rattle.zembrusha.proofs.sessions.zembrusha_watch_whole.Reads as watch-whole
 use Rattle.zembrusha.proofs.sessions.zembrusha_watch_ratio.Reads as watch-ratio
 use Rattle.zembrusha.proofs.sessions.zembrusha_watch_refusal.Reads as watch-refusal
+use Rattle.zembrusha.proofs.gatherings.zembrusha_gathered_open.Reads as gathered-opened
+use Rattle.zembrusha.proofs.gatherings.zembrusha_gathered_preview.Reads as gathered-previewed
+use Rattle.zembrusha.proofs.gatherings.zembrusha_gathered_commit.Reads as gathered-committed
+use Rattle.zembrusha.proofs.gatherings.zembrusha_gathered_watch_whole.Reads as gathered-watch-whole
+use Rattle.zembrusha.proofs.gatherings.zembrusha_gathered_watch_ratio.Reads as gathered-watch-ratio
+use Rattle.zembrusha.proofs.gatherings.zembrusha_gathered_watch_refusal.Reads as gathered-watch-refusal
+use Rattle.zembrusha.proofs.gatherings.zembrusha_gathered_save.Reads as gathered-saved
+use Rattle.zembrusha.proofs.gatherings.zembrusha_gathered_load.Reads as gathered-loaded
 use Rattle.zembrusha.proofs.texts.zembrusha_save.Reads as saved
 use Rattle.zembrusha.proofs.texts.zembrusha_load.Reads as loaded
+
+-- a page and its column
+both-runs : {A : Type 0} {r r′ : A} {x y : List ℕ × List ℤ} → (r ≡ r′) × (x ≡ y)
+    → (r ≡ r′) × (x .0 ≡ y .0) × (x .1 ≡ y .1)
+both-runs (answer, lent) =
+    (answer, ap (λ (l : List ℕ × List ℤ). l .0) lent, ap (λ (l : List ℕ × List ℤ). l .1) lent)
 
 -- ---- single calls
 pub zembrusha-character-once : (κs : _) (a : _) (r r′ : _) (s s′ : _) → character.Post κs a r s
@@ -181,3 +198,56 @@ pub zembrusha-load-once : (κs : _) (a : _) (r r′ : _) (s s′ : _) → loaded
     → (r ≡ r′) × (now (s .1 .0) ≡ now (s′ .1 .0))
 zembrusha-load-once κs a r r′ s s′ p q =
     one-outcome (loadedRun (loadInto degreeLimit (now (a .0)) (now (a .1 .0)))) p q
+
+-- ---- sessions in the gathered mode
+pub zembrusha-gathered-open-once : (κs : _) (a : _) (r r′ : _) (s s′ : _) → gathered-opened.Post κs a r s
+    → gathered-opened.Post κs a r′ s′
+    → (r ≡ r′) × (now (s .1 .1 .0) ≡ now (s′ .1 .1 .0)) × (now (s .1 .1 .1 .0) ≡ now (s′ .1 .1 .1 .0))
+zembrusha-gathered-open-once κs a r r′ s s′ p q =
+    both-runs
+    (one-outcome
+    (handedRun (openingIn gatheredMode degreeLimit (a .0) (a .1 .0) (now (a .1 .1 .0), now (a .1 .1 .1 .0)))) p q)
+
+pub zembrusha-gathered-preview-once : (κs : _) (a : _) (r r′ : _) (s s′ : _) → gathered-previewed.Post κs a r s
+    → gathered-previewed.Post κs a r′ s′ → (r ≡ r′) × (now (s .1 .1 .1 .1 .1 .0) ≡ now (s′ .1 .1 .1 .1 .1 .0))
+zembrusha-gathered-preview-once κs a r r′ s s′ p q =
+    one-outcome
+    (counted
+    (previewIn gatheredMode degreeLimit (given (a .0)) (now (a .1 .0), now (a .1 .1 .0)) (a .1 .1 .1 .0)
+    (a .1 .1 .1 .1 .0) (now (a .1 .1 .1 .1 .1 .0)))) p q
+
+pub zembrusha-gathered-commit-once : (κs : _) (a : _) (r r′ : _) (s s′ : _) → gathered-committed.Post κs a r s
+    → gathered-committed.Post κs a r′ s′
+    → (r ≡ r′) × (now (s .1 .0) ≡ now (s′ .1 .0)) × (now (s .1 .1 .0) ≡ now (s′ .1 .1 .0))
+zembrusha-gathered-commit-once κs a r r′ s s′ p q =
+    both-runs
+    (one-outcome
+    (handedRun
+    (commitIn gatheredMode degreeLimit (given (a .0)) (now (a .1 .0), now (a .1 .1 .0)) (a .1 .1 .1 .0)
+    (a .1 .1 .1 .1 .0) (now (a .1 .1 .1 .1 .1 .0)))) p q)
+
+pub zembrusha-gathered-watch-whole-once : (κs : _) (a : _) (r r′ : _) (s s′ : _) → gathered-watch-whole.Post κs a r s
+    → gathered-watch-whole.Post κs a r′ s′ → r ≡ r′
+zembrusha-gathered-watch-whole-once κs a r r′ s s′ p q = p ∙ sym q
+
+pub zembrusha-gathered-watch-ratio-once : (κs : _) (a : _) (r r′ : _) (s s′ : _) → gathered-watch-ratio.Post κs a r s
+    → gathered-watch-ratio.Post κs a r′ s′ → r ≡ r′
+zembrusha-gathered-watch-ratio-once κs a r r′ s s′ p q = p ∙ sym q
+
+pub zembrusha-gathered-watch-refusal-once : (κs : _) (a : _) (r r′ : _) (s s′ : _)
+    → gathered-watch-refusal.Post κs a r s → gathered-watch-refusal.Post κs a r′ s′ → r ≡ r′
+zembrusha-gathered-watch-refusal-once κs a r r′ s s′ p q = p ∙ sym q
+
+pub zembrusha-gathered-save-once : (κs : _) (a : _) (r r′ : _) (s s′ : _) → gathered-saved.Post κs a r s
+    → gathered-saved.Post κs a r′ s′ → (r ≡ r′) × (now (s .1 .1 .1 .0) ≡ now (s′ .1 .1 .1 .0))
+zembrusha-gathered-save-once κs a r r′ s s′ p q =
+    one-outcome
+    (counted
+    (saveBy gatheredForm degreeLimit (given (a .0)) (now (a .1 .0), now (a .1 .1 .0)) (now (a .1 .1 .1 .0)))) p q
+
+pub zembrusha-gathered-load-once : (κs : _) (a : _) (r r′ : _) (s s′ : _) → gathered-loaded.Post κs a r s
+    → gathered-loaded.Post κs a r′ s′
+    → (r ≡ r′) × (now (s .1 .0) ≡ now (s′ .1 .0)) × (now (s .1 .1 .0) ≡ now (s′ .1 .1 .0))
+zembrusha-gathered-load-once κs a r r′ s s′ p q =
+    both-runs
+    (one-outcome (loadedRun (loadBy gatheredForm degreeLimit (now (a .0)) (now (a .1 .0), now (a .1 .1 .0)))) p q)

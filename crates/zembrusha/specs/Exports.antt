@@ -4,7 +4,8 @@
 --   ofList answer                   of a list, the index beside it; listed outcome, with the lent list as it is
 --   given slip                      the slip that the calculator is handed; slipOver slip, one that it hands back
 --   handedOver k slip               with the refusal number k; loadedOver k line slip, of a load, with the text's line
---   handedRun outcome               a handed slip and a page: the slip handed over, the page as it is; loadedRun so too
+--   handedRun outcome               a handed slip and what is lent: the slip handed over, the other as it is; loadedRun so
+--                                   too
 --   number value                    the whole number that a watch gives, 0 where it gives none; fraction, the ratio
 --   counted outcome                 an answer and a lent run: the answer handed over, the run as it is
 --   NumberOf Promised r             r is the number of an answer that is promised
@@ -51,11 +52,24 @@ pub record NumberOf (Promised : NumberAnswer → Type 0) (r : ℤ) : Type 0 wher
   pub number : r ≡ answer .number
 
 abbrev pub given : Slip → calculator.Slip
-given s = record { shape = s .shape; class = s .«class_word»; settled = s .settled; lines = s .lines; steps = s .steps }
+given s = record {
+  shape = s .shape;
+  class = s .«class_word»;
+  settled = s .settled;
+  lines = s .lines;
+  steps = s .steps;
+  mode = s .mode;
+}
 
 abbrev pub slipOver : calculator.Slip → Slip
-slipOver s =
-    record { shape = s .shape; «class_word» = s .class; settled = s .settled; lines = s .lines; steps = s .steps }
+slipOver s = record {
+  shape = s .shape;
+  «class_word» = s .class;
+  settled = s .settled;
+  lines = s .lines;
+  steps = s .steps;
+  mode = s .mode;
+}
 
 abbrev pub handedOver : ℕ → calculator.Slip → Handed
 handedOver k s = record { refused = k; slip = slipOver s }
@@ -63,10 +77,10 @@ handedOver k s = record { refused = k; slip = slipOver s }
 abbrev pub loadedOver : ℕ → ℕ → calculator.Slip → Loaded
 loadedOver k line s = record { refused = k; line = line; slip = slipOver s }
 
-abbrev pub handedRun : calculator-handed.Handed × List ℕ → Handed × List ℕ
+abbrev pub handedRun : {L : Type 0} → calculator-handed.Handed × L → Handed × L
 handedRun x = (handedOver (x .0 .refused) (x .0 .slip), x .1)
 
-abbrev pub loadedRun : calculator-loaded.Loaded × List ℕ → Loaded × List ℕ
+abbrev pub loadedRun : {L : Type 0} → calculator-loaded.Loaded × L → Loaded × L
 loadedRun x = (loadedOver (x .0 .refused) (x .0 .line) (x .0 .slip), x .1)
 
 abbrev pub number : Value → ℤ

@@ -1,13 +1,15 @@
 // How the calls' answers are handed over to C, and a slip is taken from it.
 ghost use mathlib.Core.Path.{_≡_};
 ghost use Rattle.zembrusha.specs.Exports.{ofWord, ofCount, ofGood, ofList, given, slipOver, handedOver};
-ghost use Rattle.zembrusha.specs.Exports.{loadedOver};
+ghost use Rattle.characters.specs.Watch.{reads};
+ghost use Rattle.zembrusha.specs.Exports.{loadedOver, number, fraction};
 use super::Good;
 use super::Handed;
 use super::Listed;
 use super::Loaded;
 use super::Number;
 use super::Slip;
+use characters::Watched;
 
 pub fn of_word(answer: words::WordAnswer) -> Number
     ensures { λ r. ⌜ r ≡ ofWord answer ⌝ }
@@ -55,6 +57,7 @@ pub fn slip_in(slip: Slip) -> pages::Slip
         settled: slip.settled,
         lines: slip.lines as usize,
         steps: slip.steps,
+        mode: slip.mode,
     }
 }
 
@@ -67,6 +70,7 @@ fn slip_over(slip: pages::Slip) -> Slip
         settled: slip.settled,
         lines: slip.lines as u64,
         steps: slip.steps,
+        mode: slip.mode,
     }
 }
 
@@ -86,5 +90,38 @@ pub fn of_load(refused: u8, line: usize, slip: pages::Slip) -> Loaded
         refused: refused as u32,
         line: line as u64,
         slip: slip_over(slip),
+    }
+}
+
+// The whole number of what was watched, 0 where there is none.
+pub fn whole(watched: Watched) -> i64
+    ensures { λ r. ⌜ r ≡ number (reads watched .1) ⌝ }
+{
+    match watched {
+        Watched::Whole(number) => number,
+        Watched::Ratio(_) => 0,
+        Watched::Refused(_) => 0,
+    }
+}
+
+// The ratio of what was watched, 0 where there is none.
+pub fn ratio(watched: Watched) -> f64
+    ensures { λ r. ⌜ r ≡ fraction (reads watched .1) ⌝ }
+{
+    match watched {
+        Watched::Ratio(ratio) => ratio,
+        Watched::Whole(_) => 0.0,
+        Watched::Refused(_) => 0.0,
+    }
+}
+
+// The number that refused, 0 for none.
+pub fn refusal(watched: Watched) -> u32
+    ensures { λ r. ⌜ r ≡ reads watched .0 ⌝ }
+{
+    match watched {
+        Watched::Refused(number) => number as u32,
+        Watched::Whole(_) => 0,
+        Watched::Ratio(_) => 0,
     }
 }

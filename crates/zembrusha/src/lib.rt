@@ -1,6 +1,7 @@
 // The calculator's calls for C and Rust: plain numbers in, plain numbers or a struct by value out. window/zembrusha.h
 // declares them; tests/window holds the two against each other.
 
+pub mod gatherings;
 mod handing;
 pub mod runs;
 pub mod sessions;
@@ -37,6 +38,7 @@ pub struct Slip {
     pub settled: i64,
     pub lines: u64,
     pub steps: i64,
+    pub mode: u32,
 }
 
 // A slip with the refusal number beside it.

@@ -4,13 +4,12 @@ ghost use Rattle.theory.specs.Limits.{degreeLimit};
 ghost use Rattle.words.specs.Answers.{Outcome};
 ghost use Rattle.characters.specs.Opening.{opening};
 ghost use Rattle.characters.specs.Step.{preview, commit};
-ghost use Rattle.characters.specs.Watch.{reads, watch};
+ghost use Rattle.characters.specs.Watch.{watch};
 ghost use Rattle.zembrusha.specs.Exports.{given, counted, handedRun, number, fraction};
 use super::Handed;
 use super::Number;
 use super::Slip;
 use super::handing;
-use characters::Watched;
 
 // Opens a session of a shape on a class.
 #[no_mangle]
@@ -58,45 +57,12 @@ pub extern "C" fn zembrusha_commit(
     handing::slip_out(committed.refused, next)
 }
 
-// The whole number of what was watched, 0 where there is none.
-fn whole(watched: Watched) -> i64
-    ensures { λ r. ⌜ r ≡ number (reads watched .1) ⌝ }
-{
-    match watched {
-        Watched::Whole(number) => number,
-        Watched::Ratio(_) => 0,
-        Watched::Refused(_) => 0,
-    }
-}
-
-// The ratio of what was watched, 0 where there is none.
-fn ratio(watched: Watched) -> f64
-    ensures { λ r. ⌜ r ≡ fraction (reads watched .1) ⌝ }
-{
-    match watched {
-        Watched::Ratio(ratio) => ratio,
-        Watched::Whole(_) => 0.0,
-        Watched::Refused(_) => 0.0,
-    }
-}
-
-// The number that refused, 0 for none.
-fn refusal(watched: Watched) -> u32
-    ensures { λ r. ⌜ r ≡ reads watched .0 ⌝ }
-{
-    match watched {
-        Watched::Refused(number) => number as u32,
-        Watched::Whole(_) => 0,
-        Watched::Ratio(_) => 0,
-    }
-}
-
 // The whole number that a watch gives, 0 where it gives none.
 #[no_mangle]
 pub extern "C" fn zembrusha_watch_whole(slip: Slip, page: &[u64], kind: u64, line: u64) -> i64
     ensures { λ r. ⌜ r ≡ number (watch degreeLimit (given slip) (now (page .entry)) kind line .1) ⌝ }
 {
-    whole(characters::sessions::watch(handing::slip_in(slip), page, kind, line as usize))
+    handing::whole(characters::sessions::watch(handing::slip_in(slip), page, kind, line as usize))
 }
 
 // The ratio that a watch gives, 0 where it gives none.
@@ -104,7 +70,7 @@ pub extern "C" fn zembrusha_watch_whole(slip: Slip, page: &[u64], kind: u64, lin
 pub extern "C" fn zembrusha_watch_ratio(slip: Slip, page: &[u64], kind: u64, line: u64) -> f64
     ensures { λ r. ⌜ r ≡ fraction (watch degreeLimit (given slip) (now (page .entry)) kind line .1) ⌝ }
 {
-    ratio(characters::sessions::watch(handing::slip_in(slip), page, kind, line as usize))
+    handing::ratio(characters::sessions::watch(handing::slip_in(slip), page, kind, line as usize))
 }
 
 // The refusal number of the same watch, 0 for none.
@@ -112,5 +78,5 @@ pub extern "C" fn zembrusha_watch_ratio(slip: Slip, page: &[u64], kind: u64, lin
 pub extern "C" fn zembrusha_watch_refusal(slip: Slip, page: &[u64], kind: u64, line: u64) -> u32
     ensures { λ r. ⌜ r ≡ watch degreeLimit (given slip) (now (page .entry)) kind line .0 ⌝ }
 {
-    refusal(characters::sessions::watch(handing::slip_in(slip), page, kind, line as usize))
+    handing::refusal(characters::sessions::watch(handing::slip_in(slip), page, kind, line as usize))
 }

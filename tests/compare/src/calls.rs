@@ -1,5 +1,8 @@
 //! The library's calls, declared as window/zembrusha.h declares them (tests/window/header.py holds one against the
-//! other), and each in a safe function: a value with its refusal number, or what is left of a lent run.
+//! other), and each in a safe function: a value with its refusal number, or what is left of a lent run. Those of
+//! gathered sessions are in a file of their own.
+
+pub mod gathered;
 
 use crate::lent::{lend, Left};
 use crate::model::sessions::Slip;
@@ -34,6 +37,7 @@ struct CSlip {
     settled: i64,
     lines: u64,
     steps: i64,
+    mode: u32,
 }
 
 #[repr(C)]
@@ -98,6 +102,80 @@ extern "C" {
     fn zembrusha_watch_refusal(slip: CSlip, page: *const u64, words: usize, kind: u64, line: u64) -> u32;
     fn zembrusha_save(slip: CSlip, page: *const u64, words: usize, text: *mut u8, length: usize) -> Number;
     fn zembrusha_load(text: *const u8, length: usize, page: *mut u64, words: usize) -> Loaded;
+    fn zembrusha_gathered_open(
+        shape: u32,
+        class: u32,
+        page: *mut u64,
+        words: usize,
+        coefficients: *mut i64,
+        count: usize,
+    ) -> Handed;
+    fn zembrusha_gathered_preview(
+        slip: CSlip,
+        page: *const u64,
+        words: usize,
+        coefficients: *const i64,
+        count: usize,
+        line: u64,
+        cycle: u64,
+        strip: *mut u64,
+        length: usize,
+    ) -> Number;
+    fn zembrusha_gathered_commit(
+        slip: CSlip,
+        page: *mut u64,
+        words: usize,
+        coefficients: *mut i64,
+        count: usize,
+        line: u64,
+        cycle: u64,
+        strip: *const u64,
+        length: usize,
+    ) -> Handed;
+    fn zembrusha_gathered_watch_whole(
+        slip: CSlip,
+        page: *const u64,
+        words: usize,
+        coefficients: *const i64,
+        count: usize,
+        kind: u64,
+        line: u64,
+    ) -> i64;
+    fn zembrusha_gathered_watch_ratio(
+        slip: CSlip,
+        page: *const u64,
+        words: usize,
+        coefficients: *const i64,
+        count: usize,
+        kind: u64,
+        line: u64,
+    ) -> f64;
+    fn zembrusha_gathered_watch_refusal(
+        slip: CSlip,
+        page: *const u64,
+        words: usize,
+        coefficients: *const i64,
+        count: usize,
+        kind: u64,
+        line: u64,
+    ) -> u32;
+    fn zembrusha_gathered_save(
+        slip: CSlip,
+        page: *const u64,
+        words: usize,
+        coefficients: *const i64,
+        count: usize,
+        text: *mut u8,
+        length: usize,
+    ) -> Number;
+    fn zembrusha_gathered_load(
+        text: *const u8,
+        length: usize,
+        page: *mut u64,
+        words: usize,
+        coefficients: *mut i64,
+        count: usize,
+    ) -> Loaded;
 }
 
 /// A value, and the refusal number for the same words.
@@ -186,15 +264,15 @@ pub fn shapes_to_old(new: &[u32], old: &[u32]) -> Moved {
 
 impl From<Slip> for CSlip {
     fn from(slip: Slip) -> CSlip {
-        let Slip { shape, class, settled, lines, steps } = slip;
-        CSlip { shape, class_word: class, settled, lines, steps }
+        let Slip { shape, class, settled, lines, steps, mode } = slip;
+        CSlip { shape, class_word: class, settled, lines, steps, mode }
     }
 }
 
 impl From<CSlip> for Slip {
     fn from(slip: CSlip) -> Slip {
-        let CSlip { shape, class_word, settled, lines, steps } = slip;
-        Slip { shape, class: class_word, settled, lines, steps }
+        let CSlip { shape, class_word, settled, lines, steps, mode } = slip;
+        Slip { shape, class: class_word, settled, lines, steps, mode }
     }
 }
 
@@ -246,6 +324,9 @@ pub fn save(slip: Slip, page: &[u64], text: &[u8]) -> Left<Left<Valued<u64>, u64
 /// What a load answers, the refusal number, the line and the slip, and leaves of the text, and what it leaves on the
 /// page.
 pub fn load(text: &[u8], page: &[u64]) -> Left<Left<(u32, u64, Slip), u8>, u64> {
-    let answered = |answer: Loaded| (answer.refused, answer.line, answer.slip.into());
-    lend(page, |to, words| lend(text, |from, length| answered(unsafe { zembrusha_load(from, length, to, words) })))
+    lend(page, |to, words| lend(text, |from, length| loaded(unsafe { zembrusha_load(from, length, to, words) })))
+}
+
+fn loaded(answer: Loaded) -> (u32, u64, Slip) {
+    (answer.refused, answer.line, answer.slip.into())
 }

@@ -15,7 +15,7 @@ use std::process::ExitCode;
 /// The comparisons of a group.
 type Run = fn(&Characters, &mut Group);
 
-const GROUPS: [(&str, Run); 17] = [
+const GROUPS: [(&str, Run); 26] = [
     ("examples", groups::examples::run),
     ("every shape on every class", groups::pairs::run),
     ("sessions to their ends", groups::ends::run),
@@ -33,6 +33,15 @@ const GROUPS: [(&str, Run); 17] = [
     ("texts that were changed", groups::texts::run),
     ("texts by hand", groups::handmade::run),
     ("texts and pages of all sizes", groups::sizes::run),
+    ("gathered examples", groups::gathered::examples::run),
+    ("gathered sessions", groups::gathered::runs::run),
+    ("gathered sessions to their ends", groups::gathered::ends::run),
+    ("crowded pages", groups::gathered::crowds::run),
+    ("plain and gathered", groups::gathered::modes::run),
+    ("gathered sessions not sound", groups::gathered::judged::run),
+    ("gathered refusals in order", groups::gathered::orders::run),
+    ("gathered texts that were changed", groups::gathered::texts::run),
+    ("gathered texts by hand", groups::gathered::handmade::run),
 ];
 
 /// Compares the chosen groups side by side, and gives whether nothing differed in any.

@@ -6,14 +6,14 @@ use Rattle.theory.specs.Hooks.{hooks, hookWords}
 use Rattle.theory.specs.Bounds.{factorial, S}
 use Rattle.words.specs.Calls.{goodShapeWord}
 use Rattle.pages.specs.Line.{hookLines}
-use Rattle.pages.specs.Sound.{soundLine, soundLines, sound}
-use Rattle.characters.specs.Opening.{opening}
-use Rattle.characters.specs.Step.{nextLines, nextSlip, preview, commit}
+use Rattle.pages.specs.Sound.{soundLine, soundLines, soundIn}
+use Rattle.characters.specs.Opening.{openingIn}
+use Rattle.characters.specs.Step.{nextLinesIn, nextSlipIn, previewIn, commitIn}
 use Rattle.characters.specs.Examples.{Examples}
 
 pub examples : Examples
-unfolding character digits word goodShapeWord hooks hookWords hookLines factorial S soundLine soundLines sound opening
-    nextLines nextSlip preview commit
+unfolding character digits word goodShapeWord hooks hookWords hookLines factorial S soundLine soundLines soundIn openingIn
+    nextLinesIn nextSlipIn previewIn commitIn
 examples = record {
   E1 = refl;
   E2 = refl;

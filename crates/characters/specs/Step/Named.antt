@@ -21,8 +21,10 @@ use Rattle.pages.specs.Line.Weights.{weightOf}
 use Rattle.pages.specs.declared.Slip.{Slip}
 use Rattle.pages.specs.Page.{lineOf, lineAt, worth}
 use Rattle.pages.specs.Sound.{lineValue, lineSpan}
-use Rattle.pages.specs.Sound.Laws.{SoundLine, asked, SoundLines}
-use Rattle.characters.specs.Step.{settledHooks, waitingHooks, nextLines, nextSlip}
+use Rattle.pages.specs.Sound.Laws.{SoundLine, asked, values, spans, SoundLines}
+use Rattle.pages.specs.Mode.{Mode}
+use Rattle.pages.specs.Lawful.{Lawful}
+use Rattle.characters.specs.Step.{settledHooks, waitingHooks, nextLinesIn, nextSlipIn, nextLines}
 use Rattle.characters.specs.Step.Strike.{waiting-sound, strike-worth, strike-value, strike-span}
 
 pub record Named (limit : ℕ) (slip : Slip) (lines : List Line) (i cycle : ℕ) : Type 0 where
@@ -37,14 +39,8 @@ one-more (negsuc n) e = absurd (false≢true e)
 moved : (z g b d l : ℤ) → z +ℤ g +ℤ (b +ℤ d +ℤ l) ≡ z +ℤ (b +ℤ (g +ℤ l +ℤ d))
 moved z g b d l = simp sums
 
--- a line exchanged for lines and a number that together are worth as much
-worth-exchanged : (f : Line → ℤ) (z g : ℤ) (b d l : List Line) (x : Line) → f x ≡ g +ℤ sum f l
-    → z +ℤ g +ℤ sum f (b ++ d ++ l) ≡ z +ℤ sum f (b ++ x ∷ d)
-worth-exchanged f z g b d l x e =
-    rw (sum-append f (b ++ d) l, sum-append f b d, sum-append f b (x ∷ d), e)
-    (moved z g (sum f b) (sum f d) (sum f l))
-
-module _ (limit : ℕ) (slip : Slip) (lines : List Line) (i cycle : ℕ) (n : Named limit slip lines i cycle) where
+module _ {m : Mode} (law : Lawful m) (limit : ℕ) (slip : Slip) (lines : List Line) (i cycle : ℕ)
+    (n : Named limit slip lines i cycle) where
   -- ---- the line and its neighbours
   abbrev chosen : Line
   chosen = lineAt lines i
@@ -58,23 +54,25 @@ module _ (limit : ℕ) (slip : Slip) (lines : List Line) (i cycle : ℕ) (n : Na
   abbrev hooks : List Line
   hooks = waitingHooks cycle chosen
 
+  abbrev next : List Line
+  next = nextLinesIn m lines i cycle
+
   lines-split : lines ≡ before ++ chosen ∷ behind
   lines-split = split-at lines i (lineOf 0) (n .there)
 
-  parts : Each (SoundLine (asked slip)) before × Each (SoundLine (asked slip)) (chosen ∷ behind)
-  parts = each-parts (SoundLine (asked slip)) before (chosen ∷ behind) (rw lines-split at (n .soundness .each))
+  -- what is true of each line is true of each that stays
+  others-each : (P : Line → Type 0) → Each P lines → Each P (before ++ behind)
+  others-each P all =
+      let (first, rest) = each-parts P before (chosen ∷ behind) (rw lines-split at all) in
+      each-append P before behind first (rest .1)
 
   pub chosen-sound : SoundLine (asked slip) chosen
-  chosen-sound = parts .1 .0
+  chosen-sound =
+      each-parts (SoundLine (asked slip)) before (chosen ∷ behind) (rw lines-split at (n .soundness .each)) .1 .0
 
   -- ---- what they count
   over-split : (f : Line → ℕ) → total (map f lines) ≡ total (map f before) + (f chosen + total (map f behind))
   over-split f = ap (λ (ls : List Line). total (map f ls)) lines-split ∙ total-append f before (chosen ∷ behind)
-
-  over-next : (f : Line → ℕ)
-      → total (map f (nextLines lines i cycle)) ≡ total (map f before) + total (map f behind) + total (map f hooks)
-  unfolding nextLines
-  over-next f = omega (arith, total-append f (before ++ behind) hooks, total-append f before behind)
 
   -- the weights of its hooks can be added to settled, in whatever order
   pub settled-room : natAbs (slip .settled) + natAbs (sum weightOf (settledHooks cycle chosen)) ≤ factorial (asked slip)
@@ -86,19 +84,30 @@ module _ (limit : ℕ) (slip : Slip) (lines : List Line) (i cycle : ℕ) (n : Na
   )
 
   -- ---- the lines that come of it
-  pub next-each : (P : Line → Type 0) → Each P lines → Each P hooks → Each P (nextLines lines i cycle)
-  unfolding nextLines
-  next-each P all new =
-      let (first, rest) = each-parts P before (chosen ∷ behind) (rw lines-split at all) in
-      each-append P (before ++ behind) hooks (each-append P before behind first (rest .1)) new
+  pub next-written : Each (law .Written) lines → Each (law .Written) hooks → Each (law .Written) next
+  unfolding nextLinesIn
+  next-written all new = law .written-join (before ++ behind) hooks (others-each (law .Written) all) new
 
-  pub next-length : length (nextLines lines i cycle) ≡ length lines - 1 + length hooks
-  unfolding nextLines
-  next-length = simp length-append
-      (omega (arith, ap length lines-split, length-append before (chosen ∷ behind)))
+  pub next-stands : m .stands lines ≡ true → m .stands next ≡ true
+  unfolding nextLinesIn
+  next-stands stands = law .stands-join (before ++ behind) hooks (law .stands-without i lines stands)
 
-  pub next-sound : SoundLines limit (nextSlip slip lines i cycle) (nextLines lines i cycle)
-  unfolding nextSlip
+  next-each : Each (SoundLine (asked slip)) next
+  unfolding nextLinesIn
+  next-each =
+      law .sound-join (asked slip) (before ++ behind) hooks (others-each (SoundLine (asked slip)) (n .soundness .each))
+      (waiting-sound (asked slip) cycle chosen chosen-sound (n .has))
+
+  next-values : values next ≤ values before + values behind + values hooks
+  unfolding nextLinesIn
+  next-values = omega (arith, law .values-join (before ++ behind) hooks, total-append lineValue before behind)
+
+  next-spans : spans next ≤ spans before + spans behind + spans hooks
+  unfolding nextLinesIn
+  next-spans = omega (arith, law .spans-join (before ++ behind) hooks, total-append lineSpan before behind)
+
+  pub next-sound : SoundLines limit (nextSlipIn m slip lines i cycle) next
+  unfolding nextSlipIn
   next-sound =
       let s = n .soundness in
       let struck = strike-value (asked slip) cycle chosen chosen-sound (n .has) in
@@ -106,22 +115,41 @@ module _ (limit : ℕ) (slip : Slip) (lines : List Line) (i cycle : ℕ) (n : Na
       let steps = one-more (slip .steps) (s .forward) in
       record {
         words = s .words;
-        each = next-each (SoundLine (asked slip)) (s .each)
-            (waiting-sound (asked slip) cycle chosen chosen-sound (n .has));
+        each = next-each;
         value = omega (
           arith,
           abs-add (slip .settled) (sum weightOf (settledHooks cycle chosen)),
           over-split lineValue,
-          over-next lineValue,
+          next-values,
           s .value,
         );
         forward = steps .0;
-        span = omega (arith, over-split lineSpan, over-next lineSpan, s .span);
+        span = omega (arith, over-split lineSpan, next-spans, s .span);
       }
 
-  pub next-worth : worth (nextSlip slip lines i cycle) (nextLines lines i cycle) ≡ worth slip lines
-  unfolding nextSlip nextLines worth
+  pub next-worth : worth (nextSlipIn m slip lines i cycle) next ≡ worth slip lines
+  unfolding nextSlipIn nextLinesIn worth
   next-worth =
-      worth-exchanged signedCharacter (slip .settled) (sum weightOf (settledHooks cycle chosen)) before behind hooks
-      chosen (strike-worth (asked slip) cycle chosen chosen-sound (n .has))
-      ∙ ap (λ ls. slip .settled +ℤ sum signedCharacter ls) (sym lines-split)
+      let gone : ℤ = sum weightOf (settledHooks cycle chosen) in
+      let first : ℤ = sum signedCharacter before in
+      let last : ℤ = sum signedCharacter behind in
+      let new : ℤ = sum signedCharacter hooks in
+      let joined : sum signedCharacter (m .join (before ++ behind) hooks) ≡ first +ℤ last +ℤ new =
+      law .worth-join (before ++ behind) hooks
+      ∙ ap (λ z. z +ℤ new) (sum-append signedCharacter before behind) in
+      let struck = strike-worth (asked slip) cycle chosen chosen-sound (n .has) in
+      let was : sum signedCharacter lines ≡ first +ℤ (gone +ℤ new +ℤ last) =
+      ap (sum signedCharacter) lines-split ∙ sum-append signedCharacter before (chosen ∷ behind)
+      ∙ ap (λ z. first +ℤ (z +ℤ last)) struck in
+      ap (λ z. slip .settled +ℤ gone +ℤ z) joined
+      ∙ moved (slip .settled) gone first last new
+      ∙ ap (λ z. slip .settled +ℤ z) (sym was)
+
+-- in the plain mode a step leaves as many lines as stayed and as came
+pub next-length : (limit : ℕ) (slip : Slip) (lines : List Line) (i cycle : ℕ) → Named limit slip lines i cycle
+    → length (nextLines lines i cycle) ≡ length lines - 1 + length (waitingHooks cycle (lineAt lines i))
+unfolding nextLinesIn
+next-length limit slip lines i cycle n =
+    let split = split-at lines i (lineOf 0) (n .there) in
+    simp length-append
+    (omega (arith, ap length split, length-append (take i lines) (lineAt lines i ∷ drop (suc i) lines)))

@@ -5,45 +5,68 @@ use mathlib.Core.Path.{_≡_, refl, sym, _∙_, ap}
 use Prim.Native.Nat.{_≤_}
 use native.Mathlib.Decide.{ℕ-discrete}
 use native.Mathlib.Omega.{arith}
-use borrow.Author.Tests.{le-ltb, not-false}
+use borrow.Author.Tests.{le-ltb, eqb-false, not-false, not-true}
 use mathlib.Core.List.{map-append}
 use lib.ListN.{length-map}
 use lib.Seq.{take-at}
-use Rattle.theory.specs.Basics.{Bool, true, false, not, List, [], _∷_, _++_, length, take, ℕ, _<?_}
+use Rattle.theory.specs.Basics.{Bool, true, false, not, cond, List, [], _∷_, _++_, length, take, ℕ, _=?_, _<?_, every}
 use Rattle.theory.specs.Basics.{map, drop, replicate, suc, _-_}
-use Rattle.theory.specs.Basics.Laws.{same-lists, same-self}
+use Rattle.theory.specs.Basics.Laws.{both, same-lists, same-self}
 use Rattle.theory.specs.Basics.Keep.{length-keep}
+use Rattle.theory.specs.Partition.{degree}
+use Rattle.theory.specs.ShapeWord.{shapeOf}
 use Rattle.theory.specs.Refusals.{Check, firstOf, no-10, no-18, no-19}
-use Rattle.theory.specs.Refusals.Laws.{first-refuses, first-passes, both-pass, none-applies, first-below, answer-number}
+use Rattle.theory.specs.Refusals.Laws.{Numbered, first-refuses, first-passes, both-pass, none-applies}
+use Rattle.theory.specs.Refusals.Laws.{answer-number}
 use Rattle.words.specs.declared.CountAnswer.{CountAnswer}
 use Rattle.words.specs.Answers.{countAnswer}
-use Rattle.pages.specs.Line.{Line, hookLines}
+use Rattle.pages.specs.Line.{Line, lineDegree, hookLines}
 use Rattle.pages.specs.Line.Hooks.{hook-lines-few}
 use Rattle.pages.specs.declared.Slip.{Slip}
 use Rattle.pages.specs.Page.{wordOf, waiting, lineAt}
+use Rattle.pages.specs.Mode.{Mode, waitingIn}
+use Rattle.pages.specs.Lawful.{Lawful}
+use Rattle.pages.specs.Lawful.Plain.{plain-lawful}
 use Rattle.pages.specs.Sound.Bounds.{asked-within}
 use Rattle.characters.specs.Opening.{handed, Handed}
-use Rattle.characters.specs.Step.{empty, waitingHooks, nextLines, namedChecks, newLines, preview, commitChecks}
-use Rattle.characters.specs.Step.{finished, commit}
+use Rattle.characters.specs.Step.{empty, waitingHooks, nextLinesIn, namedChecksIn, newLinesIn, previewIn}
+use Rattle.characters.specs.Step.{commitChecksIn, finishedIn, commitIn, nextLines, newLines}
+use Rattle.characters.specs.Step.{preview, commitChecks, commit}
 use Rattle.characters.specs.Step.Named.{chosen-sound}
-use Rattle.characters.specs.Step.Laws.{NamedOn, named-on}
+use Rattle.characters.specs.Step.Laws.{NamedOn, numbered-named, named-on}
 
-module _ (limit : ℕ) (slip : Slip) (page : List ℕ) (line cycle : ℕ) where
+-- a number that no check has is not the first
+first-other : (n : ℕ) (checks : List Check) → (n ≡ 0 → ⊥) → every (λ check. not (check .1 =? n)) checks ≡ true
+    → firstOf checks ≡ n → ⊥
+first-other n [] some e first = some (sym first)
+first-other n (check ∷ checks) some e first = go (check .0) (first-other n checks some (all .1)) first
+  where
+    all : (not (check .1 =? n) ≡ true) × (every (λ check. not (check .1 =? n)) checks ≡ true)
+    all = both (not (check .1 =? n)) (every (λ check. not (check .1 =? n)) checks) e
+
+    go : (b : Bool) → (firstOf checks ≡ n → ⊥) → cond b (check .1) (firstOf checks) ≡ n → ⊥
+    go true rest is = eqb-false (check .1) n (not-true (check .1 =? n) (all .0)) is
+    go false rest is = rest is
+
+module _ {m : Mode} (law : Lawful m) (limit : ℕ) (slip : Slip) (x : m .Lent) (line cycle : ℕ) where
   abbrev named : List Check
-  named = namedChecks limit slip page line cycle
+  named = namedChecksIn m limit slip x line cycle
 
   abbrev new : List ℕ
-  new = newLines slip page line cycle
+  new = newLinesIn m slip x line cycle
+
+  numbers : Numbered named
+  numbers = numbered-named law limit slip x line cycle
 
   abbrev room : List Check
-  room = no-10 (nextLines (waiting slip page) line cycle) page ∷ []
+  room = no-10 (nextLinesIn m (waitingIn m slip x) line cycle) (m .page x) ∷ []
 
   -- ---- the single step
   abbrev pub stepChecks : List Check
   stepChecks = named ++ room
 
-  unfoldable pub step : Handed × List ℕ
-  step = finished (firstOf stepChecks) slip page line cycle
+  unfoldable pub step : Handed × m .Lent
+  step = finishedIn m (firstOf stepChecks) slip x line cycle
 
   -- ---- a strip that fits
   abbrev pub Fits : List ℕ → Type 0
@@ -51,119 +74,130 @@ module _ (limit : ℕ) (slip : Slip) (page : List ℕ) (line cycle : ℕ) where
 
   -- a line and a cycle that are refused are refused in a commit as in a step, whatever the strip
   refused-alike : (strip : List ℕ) → (firstOf named ≡ 0 → ⊥)
-      → firstOf (commitChecks limit slip page line cycle strip) ≡ firstOf stepChecks
+      → firstOf (commitChecksIn m limit slip x line cycle strip) ≡ firstOf stepChecks
   refused-alike strip n = first-refuses named (no-19 new strip ∷ room) n ∙ sym (first-refuses named room n)
 
   fits-alike : (strip : List ℕ) → Fits strip
-      → firstOf (commitChecks limit slip page line cycle strip) ≡ firstOf stepChecks
+      → firstOf (commitChecksIn m limit slip x line cycle strip) ≡ firstOf stepChecks
   fits-alike strip f = elim (ℕ-discrete (firstOf named) 0) [
     | yes z ↦
         let asked : firstOf (no-19 new strip ∷ room) ≡ firstOf room = rw (f, same-self new) refl in
-        first-passes named (no-19 new strip ∷ room) refl z ∙ asked ∙ sym (first-passes named room refl z)
+        first-passes named (no-19 new strip ∷ room) numbers z ∙ asked ∙ sym (first-passes named room numbers z)
     | no n ↦ refused-alike strip n
   ]
 
   -- a commit is the single step where its strip fits; where there is no new line, any strip does
-  pub commit-is-step : (strip : List ℕ) → Fits strip → commit limit slip page line cycle strip ≡ step
-  unfolding commit step
-  commit-is-step strip f = ap (λ k. finished k slip page line cycle) (fits-alike strip f)
+  pub commit-is-step : (strip : List ℕ) → Fits strip → commitIn m limit slip x line cycle strip ≡ step
+  unfolding commitIn step
+  commit-is-step strip f = ap (λ k. finishedIn m k slip x line cycle) (fits-alike strip f)
 
-  pub any-strip : (strip : List ℕ) → new ≡ [] → commit limit slip page line cycle strip ≡ step
+  pub any-strip : (strip : List ℕ) → new ≡ [] → commitIn m limit slip x line cycle strip ≡ step
   any-strip strip none = commit-is-step strip (rw none refl)
 
   -- and it is accepted only where its strip fits
-  number : (k : ℕ) → finished k slip page line cycle .0 .refused ≡ k
+  number : (k : ℕ) → finishedIn m k slip x line cycle .0 .refused ≡ k
   number k =
-      answer-number (λ (x : Handed × List ℕ). x .0 .refused) (λ k. (handed k slip, page)) _ (λ k. refl) refl k _ refl
+      answer-number (λ (x : Handed × m .Lent). x .0 .refused) (λ k. (handed k slip, x)) _ (λ k. refl) refl k _ refl
 
-  pub accepted-fits : (strip : List ℕ) → commit limit slip page line cycle strip .0 .refused ≡ 0 → Fits strip
-  unfolding commit
+  pub accepted-fits : (strip : List ℕ) → commitIn m limit slip x line cycle strip .0 .refused ≡ 0 → Fits strip
+  unfolding commitIn
   accepted-fits strip e =
       let last : List Check = no-19 new strip ∷ room in
-      let none = both-pass named last refl (sym (number _) ∙ e) .1 in
+      let none = both-pass named last numbers (sym (number _) ∙ e) .1 in
       sym (same-lists new (take (length new) strip) (not-false _ (none-applies last refl none .0)))
-
-  -- what was previewed is what comes: behind the other lines an accepted commit puts the front of its strip on the page
-  pub strip-on-page : (strip : List ℕ) → commit limit slip page line cycle strip .0 .refused ≡ 0
-      → let lines = waiting slip page in
-      commit limit slip page line cycle strip .1
-      ≡ map wordOf (take line lines ++ drop (suc line) lines) ++ take (length new) strip
-      ++ replicate (length page - length (nextLines lines line cycle)) 0
-  unfolding commit nextLines
-  strip-on-page strip e =
-      let none : firstOf (commitChecks limit slip page line cycle strip) ≡ 0 = sym (number _) ∙ e in
-      let lines : List Line = waiting slip page in
-      rw (none, accepted-fits strip e, map-append wordOf (take line lines ++ drop (suc line) lines)) refl
 
   -- ---- a preview and its commit
   abbrev previewChecks : List ℕ → List Check
   previewChecks strip = named ++ no-18 new strip ∷ []
 
-  preview-number : (strip : List ℕ) → preview limit slip page line cycle strip .0 .refused ≡ firstOf (previewChecks strip)
-  unfolding preview
+  preview-number : (strip : List ℕ) → previewIn m limit slip x line cycle strip .0 .refused ≡ firstOf (previewChecks strip)
+  unfolding previewIn
   preview-number strip =
       answer-number (λ (x : CountAnswer × List ℕ). x .0 .refused) (λ k. (countAnswer k 0, strip)) _ (λ k. refl) refl _ _
       refl
 
   -- what a preview leaves on a strip that it does not find too short
-  left-fits : (strip : List ℕ) → firstOf named ≡ 0 → (preview limit slip page line cycle strip .0 .refused ≡ 18 → ⊥)
-      → Fits (preview limit slip page line cycle strip .1)
-  unfolding preview
+  left-fits : (strip : List ℕ) → firstOf named ≡ 0 → (previewIn m limit slip x line cycle strip .0 .refused ≡ 18 → ⊥)
+      → Fits (previewIn m limit slip x line cycle strip .1)
+  unfolding previewIn
   left-fits strip z long = go (length strip <? length new) refl
     where
       first : firstOf (previewChecks strip) ≡ firstOf (no-18 new strip ∷ [])
-      first = first-passes named (no-18 new strip ∷ []) refl z
+      first = first-passes named (no-18 new strip ∷ []) numbers z
 
-      go : (b : Bool) → length strip <? length new ≡ b → Fits (preview limit slip page line cycle strip .1)
+      go : (b : Bool) → length strip <? length new ≡ b → Fits (previewIn m limit slip x line cycle strip .1)
       go true e = absurd (long (rw (first, e) refl))
       go false e = rw (first, e) (take-at new _ (length new) refl)
 
   -- the single step is the two together, on any strip that is not too short
-  pub step-is-both : (strip : List ℕ) → (preview limit slip page line cycle strip .0 .refused ≡ 18 → ⊥)
-      → commit limit slip page line cycle (preview limit slip page line cycle strip .1) ≡ step
-  unfolding commit step
+  pub step-is-both : (strip : List ℕ) → (previewIn m limit slip x line cycle strip .0 .refused ≡ 18 → ⊥)
+      → commitIn m limit slip x line cycle (previewIn m limit slip x line cycle strip .1) ≡ step
+  unfolding commitIn step
   step-is-both strip long =
-      let left : List ℕ = preview limit slip page line cycle strip .1 in
-      let alike : firstOf (commitChecks limit slip page line cycle left) ≡ firstOf stepChecks =
+      let left : List ℕ = previewIn m limit slip x line cycle strip .1 in
+      let alike : firstOf (commitChecksIn m limit slip x line cycle left) ≡ firstOf stepChecks =
       elim (ℕ-discrete (firstOf named) 0) [
         | yes z ↦ fits-alike left (left-fits strip z long)
         | no n ↦ refused-alike left n
       ] in
-      ap (λ k. finished k slip page line cycle) alike
+      ap (λ k. finishedIn m k slip x line cycle) alike
 
   -- a commit of an accepted preview is refused by nothing but 10
-  pub nothing-but-10 : (strip : List ℕ) → preview limit slip page line cycle strip .0 .refused ≡ 0
-      → commit limit slip page line cycle (preview limit slip page line cycle strip .1) .0 .refused ≡ firstOf room
+  pub nothing-but-10 : (strip : List ℕ) → previewIn m limit slip x line cycle strip .0 .refused ≡ 0
+      → commitIn m limit slip x line cycle (previewIn m limit slip x line cycle strip .1) .0 .refused ≡ firstOf room
   unfolding step
   nothing-but-10 strip e =
-      let none = both-pass named (no-18 new strip ∷ []) refl (sym (preview-number strip) ∙ e) .0 in
-      ap (λ (x : Handed × List ℕ). x .0 .refused) (step-is-both strip (λ t. omega (arith, e)))
-      ∙ number (firstOf stepChecks) ∙ first-passes named room refl none
+      let none = both-pass named (no-18 new strip ∷ []) numbers (sym (preview-number strip) ∙ e) .0 in
+      ap (λ (x : Handed × m .Lent). x .0 .refused) (step-is-both strip (λ t. omega (arith, e)))
+      ∙ number (firstOf stepChecks) ∙ first-passes named room numbers none
 
   -- a strip of as many words as the limit is never too short
-  pub few-new : NamedOn limit slip page line cycle → length new ≤ limit
+  pub few-new : NamedOn m limit slip x line cycle → length new ≤ limit
   few-new n =
-      let l : Line = lineAt (waiting slip page) line in
+      let l : Line = lineAt (waitingIn m slip x) line in
+      let same : lineDegree (m .own l) ≡ lineDegree l = ap (λ (s : ℕ). degree (shapeOf s)) (law .own-words l .0) in
       omega (
         arith,
-        length-map (waitingHooks cycle l) wordOf,
-        length-keep (λ y. not (empty y)) (hookLines cycle l),
-        hook-lines-few cycle l,
-        chosen-sound limit slip (waiting slip page) line cycle (n .named) .within,
-        asked-within limit slip (waiting slip page) (n .soundness .lines),
+        length-map (waitingHooks cycle (m .own l)) wordOf,
+        length-keep (λ y. not (empty y)) (hookLines cycle (m .own l)),
+        hook-lines-few cycle (m .own l),
+        same,
+        chosen-sound law limit slip (waitingIn m slip x) line cycle (n .named) .within,
+        asked-within limit slip (waitingIn m slip x) (n .soundness .lines),
       )
 
-  pub limit-suffices : (strip : List ℕ) → limit ≤ length strip
-      → preview limit slip page line cycle strip .0 .refused ≡ 18 → ⊥
-  limit-suffices strip long e =
+  -- no check of a line and a cycle has the number 18
+  abbrev Other : Type 0
+  Other = every (λ check. not (check .1 =? 18)) named ≡ true
+
+  pub suffices : Other → (strip : List ℕ) → limit ≤ length strip
+      → previewIn m limit slip x line cycle strip .0 .refused ≡ 18 → ⊥
+  suffices other strip long e =
       let first = sym (preview-number strip) ∙ e in
       elim (ℕ-discrete (firstOf named) 0) [
         | yes z ↦
-            let few = few-new (named-on limit slip page line cycle z) in
+            let few = few-new (named-on law limit slip x line cycle z) in
             let passes : firstOf (no-18 new strip ∷ []) ≡ 0 =
             rw (le-ltb (length strip) (length new) (omega arith)) refl in
-            omega (arith, first-passes named (no-18 new strip ∷ []) refl z, first, passes)
-        | no n ↦
-            let below = first-below 18 named (omega arith) refl in
-            omega (arith, first-refuses named (no-18 new strip ∷ []) n, first)
+            omega (arith, first-passes named (no-18 new strip ∷ []) numbers z, first, passes)
+        | no n ↦ first-other 18 named (λ z. omega arith) other (sym (first-refuses named (no-18 new strip ∷ []) n) ∙ first)
       ]
+
+pub limit-suffices : (limit : ℕ) (slip : Slip) (page : List ℕ) (line cycle : ℕ) (strip : List ℕ) → limit ≤ length strip
+    → preview limit slip page line cycle strip .0 .refused ≡ 18 → ⊥
+limit-suffices limit slip page line cycle = suffices plain-lawful limit slip page line cycle refl
+
+-- ---- in the plain mode what was previewed is what comes: behind the other lines an accepted commit puts the front of
+-- its strip on the page
+pub strip-on-page : (limit : ℕ) (slip : Slip) (page : List ℕ) (line cycle : ℕ) (strip : List ℕ)
+    → commit limit slip page line cycle strip .0 .refused ≡ 0
+    → let lines = waiting slip page in
+    commit limit slip page line cycle strip .1
+    ≡ map wordOf (take line lines ++ drop (suc line) lines) ++ take (length (newLines slip page line cycle)) strip
+    ++ replicate (length page - length (nextLines lines line cycle)) 0
+unfolding commitIn nextLinesIn
+strip-on-page limit slip page line cycle strip e =
+    let none : firstOf (commitChecks limit slip page line cycle strip) ≡ 0 =
+    sym (number plain-lawful limit slip page line cycle _) ∙ e in
+    let lines : List Line = waiting slip page in
+    rw (none, accepted-fits plain-lawful limit slip page line cycle strip e, map-append wordOf (take line lines ++ drop (suc line) lines)) refl

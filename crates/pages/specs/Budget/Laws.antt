@@ -12,8 +12,9 @@ use Rattle.theory.specs.Basics.Laws.{both, Each}
 use Rattle.theory.specs.Basics.Keep.{same-test}
 use Rattle.theory.specs.Bounds.{factorial, S}
 use Rattle.pages.specs.Line.{Line}
-use Rattle.pages.specs.Page.{waiting, Slip}
-use Rattle.pages.specs.Sound.{soundLine, soundWords, lineValue, lineSpan, soundLines, sound}
+use Rattle.pages.specs.Page.{Slip}
+use Rattle.pages.specs.Mode.{Mode, waitingIn}
+use Rattle.pages.specs.Sound.{soundLine, soundWords, lineValue, lineSpan, soundLines, soundIn}
 use Rattle.pages.specs.Sound.Laws.{SoundLine, sound-line, line-sound, asked, values, spans}
 use Rattle.pages.specs.Sound.Laws.{SoundLines, words-matched, matched-words, are-sound, sound-are}
 use Rattle.pages.specs.Budget.{left, overspent, budgetOf, spentOn, spentAll, Budget}
@@ -151,11 +152,12 @@ module _ (limit : ℕ) (slip : Slip) (lines : List Line) where
       same-test (spentAll limit (budgetOf limit slip) lines .enough) (soundLines limit slip lines)
       (λ t. sound-are limit slip lines (enough t)) (λ t. suffices (are-sound limit slip lines t))
 
--- and so of a page
-pub budget-sound-page : (limit : ℕ) (slip : Slip) (page : List ℕ) → sound limit slip page
-    ≡ (slip .lines ≤? length page && every (_=? 0) (drop (slip .lines) page)
-    && spentAll limit (budgetOf limit slip) (waiting slip page) .enough)
-unfolding sound
-budget-sound-page limit slip page =
-    ap (λ b. slip .lines ≤? length page && every (_=? 0) (drop (slip .lines) page) && b)
-    (sym (budget-sound limit slip (waiting slip page)))
+-- and so of what is lent in a mode
+pub budget-sound-in : (m : Mode) (limit : ℕ) (slip : Slip) (x : m .Lent) → soundIn m limit slip x
+    ≡ (slip .mode =? m .number && slip .lines ≤? length (m .page x) && m .idle (slip .lines) x
+    && (m .stands (waitingIn m slip x) && spentAll limit (budgetOf limit slip) (waitingIn m slip x) .enough))
+unfolding soundIn
+budget-sound-in m limit slip x =
+    ap (λ b. slip .mode =? m .number && slip .lines ≤? length (m .page x) && m .idle (slip .lines) x
+    && (m .stands (waitingIn m slip x) && b))
+    (sym (budget-sound limit slip (waitingIn m slip x)))

@@ -8,7 +8,7 @@ use Prim.Native.Nat.{_≤_}
 use native.Mathlib.Nat.{le-trans}
 use lib.Signed.{nonNeg}
 use borrow.Author.Tests.{leb-true, eqb-true, le-leb, eq-eqb, ltb-false, not-false}
-use Rattle.theory.specs.Basics.{true, List, map, length, drop, ℕ, _+_, natAbs, _=?_, _≤?_, every, total}
+use Rattle.theory.specs.Basics.{true, List, [], _∷_, map, length, drop, ℕ, _+_, natAbs, _=?_, _≤?_, every, total}
 use Rattle.theory.specs.Basics.Laws.{both, Each, each-same}
 use Rattle.theory.specs.Basics.Keep.{every-each, each-every}
 use Rattle.theory.specs.Limits.{pageLimit}
@@ -17,11 +17,13 @@ use Rattle.theory.specs.ShapeWord.{goodShape, shapeOf}
 use Rattle.theory.specs.ShapeWord.Good.{shape-good}
 use Rattle.theory.specs.ClassWord.{goodClass, classOf}
 use Rattle.theory.specs.Bounds.{factorial, S}
-use Rattle.theory.specs.Refusals.{firstOf, pairChecks}
-use Rattle.theory.specs.Refusals.Laws.{none-applies, Matched, good-matched, pair-passes}
+use Rattle.theory.specs.Refusals.{Check, firstOf, pairChecks, no-7}
+use Rattle.theory.specs.Refusals.Laws.{Numbered, none-applies, both-pass, Matched, good-matched, pair-passes}
 use Rattle.pages.specs.Line.{Line, lineDegree}
-use Rattle.pages.specs.Page.{waiting, Slip}
-use Rattle.pages.specs.Sound.{soundLine, soundWords, lineValue, lineSpan, soundLines, sound, pageChecks}
+use Rattle.pages.specs.Page.{Slip}
+use Rattle.pages.specs.Mode.{Mode, waitingIn, plainMode}
+use Rattle.pages.specs.Sound.{soundLine, soundWords, lineValue, lineSpan, soundLines, soundWith, soundIn}
+use Rattle.pages.specs.Sound.{pageChecksIn, sound, pageChecks}
 
 -- ---- a line
 pub record SoundLine (n : ℕ) (l : Line) : Type 0 where
@@ -129,33 +131,59 @@ all-zero xs t = each-same _ (λ x. x ≡ 0) xs (λ x. eqb-true x 0) (every-each 
 pub zero-all : (xs : List ℕ) → Each (λ x. x ≡ 0) xs → every (_=? 0) xs ≡ true
 zero-all xs e = each-every (_=? 0) xs (each-same (λ x. x ≡ 0) _ xs (λ x. eq-eqb x 0) e)
 
-pub record Sound (limit : ℕ) (slip : Slip) (page : List ℕ) : Type 0 where
-  pub fit : slip .lines ≤ length page
-  pub zeros : Each (λ x. x ≡ 0) (drop (slip .lines) page)
-  pub lines : SoundLines limit slip (waiting slip page)
+-- what is lent in a mode
+pub record SoundIn (m : Mode) (limit : ℕ) (slip : Slip) (x : m .Lent) : Type 0 where
+  pub mode : slip .mode ≡ m .number
+  pub fit : slip .lines ≤ length (m .page x)
+  pub idle : m .idle (slip .lines) x ≡ true
+  pub stands : m .stands (waitingIn m slip x) ≡ true
+  pub lines : SoundLines limit slip (waitingIn m slip x)
 
-module _ (limit : ℕ) (slip : Slip) (page : List ℕ) where
-  pub is-sound : sound limit slip page ≡ true → Sound limit slip page
-  unfolding sound
+module _ (m : Mode) (limit : ℕ) (slip : Slip) (x : m .Lent) where
+  pub is-sound : soundIn m limit slip x ≡ true → SoundIn m limit slip x
+  unfolding soundIn
   is-sound t =
-      let c = both _ (soundLines limit slip (waiting slip page)) t in
-      let b = both (slip .lines ≤? length page) (every (_=? 0) (drop (slip .lines) page)) (c .0) in
+      let waiting : List Line = waitingIn m slip x in
+      let d = both _ (soundWith m limit slip waiting) t in
+      let c = both (m .stands waiting) (soundLines limit slip waiting) (d .1) in
+      let b = both _ (m .idle (slip .lines) x) (d .0) in
+      let a = both (slip .mode =? m .number) (slip .lines ≤? length (m .page x)) (b .0) in
       record {
-        fit = leb-true (slip .lines) (length page) (b .0);
-        zeros = all-zero (drop (slip .lines) page) (b .1);
-        lines = are-sound limit slip (waiting slip page) (c .1);
+        mode = eqb-true (slip .mode) (m .number) (a .0);
+        fit = leb-true (slip .lines) (length (m .page x)) (a .1);
+        idle = b .1;
+        stands = c .0;
+        lines = are-sound limit slip waiting (c .1);
       }
 
-  pub sound-is : Sound limit slip page → sound limit slip page ≡ true
-  unfolding sound
+  pub sound-is : SoundIn m limit slip x → soundIn m limit slip x ≡ true
+  unfolding soundIn
   sound-is s = rw (
-    le-leb (slip .lines) (length page) (s .fit),
-    zero-all (drop (slip .lines) page) (s .zeros),
-    sound-are limit slip (waiting slip page) (s .lines),
+    eq-eqb (slip .mode) (m .number) (s .mode),
+    le-leb (slip .lines) (length (m .page x)) (s .fit),
+    s .idle,
+    s .stands,
+    sound-are limit slip (waitingIn m slip x) (s .lines),
   )
+
+  -- what it tells that neither a check of what is lent nor 7 refuses
+  pub lent-passed : Numbered (m .lentChecks x) → firstOf (pageChecksIn m limit slip x) ≡ 0
+      → (firstOf (m .lentChecks x) ≡ 0) × SoundIn m limit slip x
+  lent-passed numbers none =
+      let last : List Check = no-7 (soundIn m limit slip x) ∷ [] in
+      let (lent, passes) = both-pass (m .lentChecks x) last numbers none in
+      (lent, is-sound (not-false (soundIn m limit slip x) (none-applies last refl passes .0)))
+
+-- ---- in the plain mode
+abbrev pub Sound : ℕ → Slip → List ℕ → Type 0
+Sound limit slip page = SoundIn plainMode limit slip page
+
+module _ (limit : ℕ) (slip : Slip) (page : List ℕ) where
+  pub sound-zeros : Sound limit slip page → Each (λ x. x ≡ 0) (drop (slip .lines) page)
+  sound-zeros s = all-zero (drop (slip .lines) page) (s .idle)
 
   -- what it tells that 6 and 7 do not refuse
   pub page-passed : firstOf (pageChecks limit slip page) ≡ 0 → (length page ≤ pageLimit) × Sound limit slip page
   page-passed none =
       let (short, (passes, _)) = none-applies (pageChecks limit slip page) refl none in
-      (ltb-false pageLimit (length page) short, is-sound (not-false (sound limit slip page) passes))
+      (ltb-false pageLimit (length page) short, is-sound plainMode limit slip page (not-false (sound limit slip page) passes))

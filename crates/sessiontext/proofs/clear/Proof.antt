@@ -34,13 +34,13 @@ loop-less c = simp length-set (omega arith)
 loop-again : tie.Need-loop-again Inv-loop μ-loop
 loop-again c =
     let l = c .before .loop in
-    (clears-more _ (l .at) (c .loop-test .taken) ∙ l .inv .0, simp length-set (l .inv .1))
+    (clears-more 0 _ (l .at) (c .loop-test .taken) ∙ l .inv .0, simp length-set (l .inv .1))
 
 same-length : tie.Need-same-length Inv-loop μ-loop
 same-length c = search needs
 
 returns : tie.Need-returns Inv-loop μ-loop
-returns c = sym (cleared-all _ (c .before .loop .at) (c .loop-test .left)) ∙ c .before .loop .inv .0
+returns c = sym (cleared-all 0 _ (c .before .loop .at) (c .loop-test .left)) ∙ c .before .loop .inv .0
 
 pub clear-spec : {M : Type 1} → statement M
 clear-spec =

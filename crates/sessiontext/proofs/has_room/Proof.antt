@@ -6,9 +6,9 @@ use lib.ListN.{length-map, length-append}
 use borrow.Author.Tests.{le-leb}
 use Rattle.theory.specs.Basics.{map, length, joined, _+_, _++_, _≤?_}
 use Rattle.pages.specs.Page.{lineOf}
-use Rattle.sessiontext.specs.SessionText.{lineText, sessionText}
+use Rattle.sessiontext.specs.SessionText.{plainForm, lineText, sessionText}
 use Rattle.sessiontext.specs.SessionText.Laws.{askedText, reachedText, session-parts}
-use Rattle.sessiontext.specs.SessionText.Room.{session-short}
+use Rattle.sessiontext.specs.SessionText.Room.{plain-session-short}
 use borrow.Author.Needs.{needs}
 use Rattle.sessiontext.proofs.has_room.Statement.{statement}
 use Rattle.sessiontext.proofs.has_room.Tie as tie
@@ -21,14 +21,14 @@ count c =
     let lines = s .args .lines .now in
     let slip = s .args .slip in
     let long = length-map lines lineOf in
-    let whole = ap length (rw long at (session-parts slip (map lineOf lines))) in
+    let whole = ap length (rw long at (session-parts plainForm slip (map lineOf lines))) in
     omega (
       arith,
       whole,
       length-append (askedText slip ++ reachedText slip (length lines)) (joined lineText (map lineOf lines)),
       c .before .before .head .ensures .ends,
       c .all .ensures,
-      session-short (s .pre .0),
+      plain-session-short (s .pre .0),
       s .pre .1,
     )
 
@@ -43,7 +43,7 @@ returns c =
     let s = c .before .before in
     sym
     (le-leb _ (s .args .room)
-    (omega (arith, session-short (s .pre .0), length-map (s .args .lines .now) lineOf, c .if1 .taken)))
+    (omega (arith, plain-session-short (s .pre .0), length-map (s .args .lines .now) lineOf, c .if1 .taken)))
 
 slice-aggregate-head : tie.Need-slice-aggregate-head
 slice-aggregate-head c = search needs
@@ -58,7 +58,7 @@ add-result : tie.Need-add-result
 add-result c =
     let s = c .before .before .before .before .before .before in
     record {
-      fits = omega (arith, count c, session-short (s .pre .0), length-map (s .args .lines .now) lineOf, s .pre .1);
+      fits = omega (arith, count c, plain-session-short (s .pre .0), length-map (s .args .lines .now) lineOf, s .pre .1);
     }
 
 returns-2 : tie.Need-returns-2

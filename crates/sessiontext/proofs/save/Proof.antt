@@ -5,37 +5,42 @@ use native.Mathlib.Omega.{arith}
 use lib.Seq.{length-take-le}
 use borrow.Author.Tests.{not-true, not-false, leb-true, leb-false}
 use Rattle.theory.specs.Basics.{length}
-use Rattle.theory.specs.Limits.{degreeLimit, pageLimit}
+use Rattle.theory.specs.Limits.{degreeLimit}
 use Rattle.theory.specs.Refusals.{firstOf}
 use Rattle.text.specs.Wrote.{most}
 use Rattle.pages.specs.Page.{waiting}
+use Rattle.pages.specs.Mode.{plainMode}
 use Rattle.pages.specs.Sound.{pageChecks}
 use Rattle.pages.specs.Sound.Laws.{Sound}
 use Rattle.sessiontext.specs.SessionText.Storable.{Storable, sound-storable}
-use Rattle.sessiontext.proofs.Saving.{page-refuses, page-short, page-sound, room-refuses, saves}
+use Rattle.sessiontext.proofs.Saving.{page-refuses, room-refuses, saves}
+use Rattle.pages.specs.Lawful.Plain.{plain-lawful}
+use Rattle.pages.specs.Lawful.Checks.{passed-page}
+use Rattle.sessiontext.specs.SessionText.Faithful.Plain.{plain-faithful}
 use borrow.Author.Needs.{needs}
 use Rattle.sessiontext.proofs.save.Statement.{statement}
 use Rattle.sessiontext.proofs.save.Tie as tie
 
 -- ---- what the judge tells
-none : (c : tie.Else1) → let a = c .before .before .before .before .args in firstOf (pageChecks degreeLimit (a .slip) (a .page .now)) ≡ 0
+none : (c : tie.Else1) → let a = c .before .before .before .before .args in
+    firstOf (pageChecks degreeLimit (a .slip) (a .page .now)) ≡ 0
 none c = sym (c .before .refusal .ensures) ∙ c .if1 .left
 
-sound : (c : tie.Else1) → let a = c .before .before .before .before .args in Sound degreeLimit (a .slip) (a .page .now)
-sound c =
-    let a = c .before .before .before .before .args in
-    page-sound (a .slip) (a .page .now) (none c)
+passed : (c : tie.Else1) → let a = c .before .before .before .before .args in
+    (firstOf (plainMode .lentChecks (a .page .now)) ≡ 0) × Sound degreeLimit (a .slip) (a .page .now)
+unfolding plain-lawful
+passed c = passed-page plain-lawful degreeLimit _ _ (none c)
 
-short : (c : tie.Else1) → length (c .before .before .before .before .args .page .now) ≤ pageLimit
-short c =
-    let a = c .before .before .before .before .args in
-    page-short (a .slip) (a .page .now) (none c)
+sound : (c : tie.Else1) → let a = c .before .before .before .before .args in Sound degreeLimit (a .slip) (a .page .now)
+sound c = passed c .1
 
 fits : (c : tie.Start) → length (c .args .text .now) ≤ most
 fits c = omega arith
 
-storable : (c : tie.Else1) → let a = c .before .before .before .before .args in Storable degreeLimit (a .slip) (waiting (a .slip) (a .page .now))
-storable c = sound-storable (sound c) (omega (arith, short c))
+storable : (c : tie.Else1) → let a = c .before .before .before .before .args in
+    Storable degreeLimit (a .slip) (waiting (a .slip) (a .page .now))
+storable c =
+    sound-storable plain-faithful (sound c) (passed c .0)
 
 refusal-requires : tie.Need-refusal-requires
 refusal-requires c κs = search needs
@@ -44,7 +49,8 @@ returns : tie.Need-returns
 returns c =
     let j = c .before in
     let a = j .before .before .before .args in
-    page-refuses (a .slip) (a .page .now) (a .text .now) (j .refusal .result) (j .refusal .ensures) (c .if1 .taken)
+    page-refuses plain-faithful (a .slip) (a .page .now) (a .text .now) (j .refusal .result) (j .refusal .ensures)
+    (c .if1 .taken)
 
 slice-aggregate-has-room : tie.Need-slice-aggregate-has-room
 slice-aggregate-has-room c = sym (length-take-le _ _ (sound (c .before) .fit))
@@ -53,14 +59,15 @@ has-room-requires : tie.Need-has-room-requires
 has-room-requires c κs =
     let e = c .before in
     let a = e .before .before .before .before .args in
-    (storable e, omega (arith, short e, sound e .fit, length-take-le (a .slip .lines) (a .page .now) (sound e .fit)))
+    let long = length-take-le (a .slip .lines) (a .page .now) (sound e .fit) in
+    (storable e, omega (arith, plain-lawful .short (a .page .now) (passed e .0), sound e .fit, long))
 
 returns-2 : tie.Need-returns-2
 returns-2 c =
     let r = c .before in
     let e = r .before .before in
     let a = e .before .before .before .before .args in
-    room-refuses (a .slip) (a .page .now) (a .text .now) (none e)
+    room-refuses plain-faithful (a .slip) (a .page .now) (a .text .now) (none e)
     (leb-false _ _ (sym (r .has-room .ensures) ∙ not-true _ (c .if2 .taken)))
 
 slice-aggregate-session : tie.Need-slice-aggregate-session
@@ -79,8 +86,9 @@ returns-3 c =
     let r = i .before in
     let e = r .before .before in
     let a = e .before .before .before .before .args in
-    saves (a .slip) (a .page .now) (a .text .now) (none e)
-    (leb-true _ _ (sym (r .has-room .ensures) ∙ not-false _ (i .if2 .left))) (fits (e .before .before .before .before)) (w .session .ensures)
+    saves plain-faithful (a .slip) (a .page .now) (a .text .now) (none e)
+    (leb-true _ _ (sym (r .has-room .ensures) ∙ not-false _ (i .if2 .left))) (fits (e .before .before .before .before))
+    (w .session .ensures)
 
 pub save-spec : {M : Type 1} → statement M
 save-spec =

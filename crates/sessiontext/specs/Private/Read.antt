@@ -1,7 +1,8 @@
 -- What the private readers of a line of text are asked, and what they answer.
 --   Named name             a name of 8 bytes at most, without digits
 --   ReadNumber name t r    r says whether t is a line of this name and a number of 64 bits, and then which; ReadSteps and
---                          ReadSettled, so of those lines; ReadSigned m n r, whether 64 bits hold n with this sign
+--                          ReadSettled, so of those lines; ReadSigned m n r, whether 64 bits hold n with this sign;
+--                          ReadInteger t r, whether they hold what is read off t
 --   ReadParts w t r column the parts that stand in t, at the front of a column, and their word by w, if they are a
 --                          partition within the limit; noParts, if not; ReadShape and ReadClass, so of those lines
 --   ReadLine t r rows cycles   what stands in t of a waiting line; ReadWaiting t r, and whether t is of its form
@@ -53,6 +54,10 @@ pub record ReadSteps (t : Text) (r : IntegerRead) : Type 0 where
 pub record ReadSigned (minus : Bool) (size : ℕ) (r : IntegerRead) : Type 0 where
   pub formed : r .formed ≡ held (cond minus (negℤ (pos size)) (pos size))
   pub number : r .formed ≡ true → r .number ≡ cond minus (negℤ (pos size)) (pos size)
+
+pub record ReadInteger (t : Text) (r : IntegerRead) : Type 0 where
+  pub formed : r .formed ≡ held (integerIn t)
+  pub number : r .formed ≡ true → r .number ≡ integerIn t
 
 pub record ReadSettled (t : Text) (r : IntegerRead) : Type 0 where
   pub formed : r .formed ≡ isInteger (ascii "settled=") t

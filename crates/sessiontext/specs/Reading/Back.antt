@@ -4,8 +4,9 @@ use mathlib.Core.Bool.{false≢true}
 use Prim.Native.Nat.{_<_}
 use native.Mathlib.Omega.{arith}
 use lib.ListN.{length-map}
+use lib.Seq.{drop-at}
 use lib.Signed.{nonNeg}
-use Rattle.theory.specs.Basics.{Bool, true, false, not, List, [], _∷_, _++_, map, length, ℕ, _^_, ℤ, pos, negsuc}
+use Rattle.theory.specs.Basics.{true, not, List, [], _∷_, _++_, map, length, drop, ℕ, _^_, ℤ, pos, negsuc}
 use Rattle.theory.specs.Basics.{natAbs, _=?_, every}
 use Rattle.theory.specs.Basics.Laws.{Each, each-append, each-map}
 use Rattle.theory.specs.Partition.{Parts, degree}
@@ -20,43 +21,46 @@ use Rattle.text.specs.Reading.Bytes.{Without, without, each-not, decimal-within
 use Rattle.text.specs.Reading.Lines.{Line, text-line, lines-joined}
 use Rattle.pages.specs.Line.{Line as Waits}
 use Rattle.pages.specs.declared.Slip.{Slip}
-use Rattle.sessiontext.specs.SessionText.{signText, waitingText, lineText, sessionLines, sessionText}
-use Rattle.sessiontext.specs.SessionText.Storable.{StorableLine, Storable}
-use Rattle.sessiontext.specs.Reading.{lineIn, fault, slipIn, linesIn}
-use Rattle.sessiontext.specs.Reading.Forms.{InLimit, Waiting, Formed, no-fault}
+use Rattle.sessiontext.specs.SessionText.{Form, weightedText, lineTextBy, sessionLinesBy, sessionTextBy}
+use Rattle.sessiontext.specs.SessionText.Faithful.{Faithful}
+use Rattle.sessiontext.specs.SessionText.Storable.{StorableLineBy, StorableBy}
+use Rattle.sessiontext.specs.Reading.{lineBy, bodyBy, faultBy, slipBy, linesBy}
+use Rattle.sessiontext.specs.Reading.Forms.{Fronted, InLimit, WaitingBy, FormedBy, no-fault}
 use Rattle.sessiontext.specs.Reading.Fields.{number-line, number-formed, settled-line, settled-formed}
 use Rattle.sessiontext.specs.Reading.Fields.{list-line, list-formed, shape-in, class-in, class-same}
 use Rattle.sessiontext.specs.Reading.Fields.{line-formed, line-same}
 
 -- ---- the lines of the text
+is-front : (front ts : List Text) → Fronted front (front ++ ts)
+is-front [] ts = tt
+is-front (line ∷ front) ts = (refl, is-front front ts)
+
 plain-list : (ps : Parts) → Without 10 (listText ps)
 plain-list ps = without 44 57 10 (listText ps) (λ x l h e. omega arith) (list-within ps)
 
 plain-number : (n : ℕ) → Without 10 (decimal n)
 plain-number n = without 48 57 10 (decimal n) (λ x l h e. omega arith) (decimal-within n)
 
-plain-sign : (minus : Bool) → Without 10 (signText minus)
-plain-sign true = (refl, tt)
-plain-sign false = (refl, tt)
-
 -- a name that is written out, and a text without newlines
 named : (name t : Text) → every (λ b. not (b =? 10)) name ≡ true → Without 10 t → Line (textLine name t)
 named name t e w = text-line name t (each-not (_=? 10) name e) w
 
-pub waiting-line : (minus : Bool) (shape class : Parts) → Line (waitingText minus shape class)
-unfolding waitingText
-waiting-line minus shape class =
-    let first : Text = signText minus ++ ascii ";" in
-    let second : Text = first ++ listText shape ++ ascii ";" in
-    let a = each-append _ (signText minus) (ascii ";") (plain-sign minus) (refl, tt) in
-    let b = each-append _ first (listText shape) a (plain-list shape) in
-    let c = each-append _ (first ++ listText shape) (ascii ";") b (refl, tt) in
-    named (ascii "line=") (second ++ listText class) refl (each-append _ second (listText class) c (plain-list class))
+module _ {f : Form} (fa : Faithful f) where
+  pub waiting-line : (z : ℤ) (shape class : Parts) → Line (weightedText (f .weightText z) shape class)
+  unfolding weightedText
+  waiting-line z shape class =
+      let first : Text = f .weightText z ++ ascii ";" in
+      let second : Text = first ++ listText shape ++ ascii ";" in
+      let plain = without 43 57 10 (f .weightText z) (λ x l h e. omega arith) (fa .weight-within z) in
+      let a = each-append _ (f .weightText z) (ascii ";") plain (refl, tt) in
+      let b = each-append _ first (listText shape) a (plain-list shape) in
+      let c = each-append _ (first ++ listText shape) (ascii ";") b (refl, tt) in
+      named (ascii "line=") (second ++ listText class) refl (each-append _ second (listText class) c (plain-list class))
 
-waiting-lines : (lines : List Waits) → Each Line (map lineText lines)
-waiting-lines [] = tt
-waiting-lines (l ∷ lines) =
-    (waiting-line (not (nonNeg (l .weight))) (shapeOf (l .shape)) (classOf (l .class)), waiting-lines lines)
+  waiting-lines : (lines : List Waits) → Each Line (map (lineTextBy f) lines)
+  waiting-lines [] = tt
+  waiting-lines (l ∷ lines) =
+      (waiting-line (l .weight) (shapeOf (l .shape)) (classOf (l .class)), waiting-lines lines)
 
 module _ (slip : Slip) (lines : List Waits) where
   abbrev shape : Parts
@@ -86,39 +90,60 @@ module _ (slip : Slip) (lines : List Waits) where
   line-6 : Line (field "lines=" (decimal (length lines)))
   line-6 = named (ascii "lines=") (decimal (length lines)) refl (plain-number _)
 
-  session-line : Each Line (sessionLines slip lines)
-  unfolding sessionLines
-  session-line = (line-1, (line-2, (line-3, (line-4, (line-5, (line-6, waiting-lines lines))))))
+  module _ {f : Form} (fa : Faithful f) where
+    session-line : Each Line (sessionLinesBy f slip lines)
+    unfolding sessionLinesBy
+    session-line =
+        each-append Line (f .front) _ (fa .front-lines)
+        (line-1, (line-2, (line-3, (line-4, (line-5, (line-6, waiting-lines fa lines))))))
 
-lines-read : (slip : Slip) (lines : List Waits) → linesOf (sessionText slip lines) ≡ sessionLines slip lines
-unfolding sessionText
-lines-read slip lines = lines-joined (sessionLines slip lines) (session-line slip lines)
+    lines-read : linesOf (sessionTextBy f slip lines) ≡ sessionLinesBy f slip lines
+    unfolding sessionTextBy
+    lines-read = lines-joined (sessionLinesBy f slip lines) session-line
+
+    -- the lines in front, and those behind them
+    fronted : Fronted (f .front) (linesOf (sessionTextBy f slip lines))
+    unfolding sessionLinesBy
+    fronted = rw lines-read (is-front (f .front) _)
+
+    abbrev body : List Text
+    body =
+        field "degree=" (decimal (degree shape)) ∷ field "shape=" (listText shape) ∷ field "class=" (listText class)
+        ∷ field "steps=" (decimal (natAbs (slip .steps))) ∷ field "settled=" (integer (slip .settled))
+        ∷ field "lines=" (decimal (length lines)) ∷ map (lineTextBy f) lines
+
+    body-read : bodyBy f (sessionTextBy f slip lines) ≡ body
+    unfolding sessionLinesBy
+    body-read = ap (drop (length (f .front))) lines-read ∙ drop-at (f .front) body (length (f .front)) refl
 
 -- ---- what they are read as
 pub forward-same : (z : ℤ) → nonNeg z ≡ true → pos (natAbs z) ≡ z
 forward-same (pos n) e = refl
 forward-same (negsuc n) e = absurd (false≢true e)
 
-module _ (limit : ℕ) (room : limit < width) where
-  all-formed : (lines : List Waits) → Each (StorableLine limit) lines → Each (Waiting limit) (map lineText lines)
-  all-formed lines e = each-map (StorableLine limit) (Waiting limit) lineText lines (λ x. line-formed limit room) e
+module _ {f : Form} (fa : Faithful f) (limit : ℕ) (room : limit < width) where
+  all-formed : (lines : List Waits) → Each (StorableLineBy fa limit) lines
+      → Each (WaitingBy f limit) (map (lineTextBy f) lines)
+  all-formed lines e =
+      each-map (StorableLineBy fa limit) (WaitingBy f limit) (lineTextBy f) lines (λ x. line-formed limit room fa) e
 
-  all-same : (lines : List Waits) → Each (StorableLine limit) lines → map lineIn (map lineText lines) ≡ lines
+  all-same : (lines : List Waits) → Each (StorableLineBy fa limit) lines
+      → map (lineBy f) (map (lineTextBy f) lines) ≡ lines
   all-same [] e = refl
-  all-same (x ∷ lines) e = rw (line-same limit room (e .0), all-same lines (e .1))
+  all-same (x ∷ lines) e = rw (line-same limit room fa (e .0), all-same lines (e .1))
 
-  module _ {slip : Slip} {lines : List Waits} (s : Storable limit slip lines) where
+  module _ {slip : Slip} {lines : List Waits} (s : StorableBy fa limit slip lines) where
     its-shape : InLimit limit (shapeOf (slip .shape))
     its-shape = shape-in limit room (s .shape)
 
     its-class : InLimit limit (classOf (slip .class))
     its-class = class-in limit room (s .class)
 
-    session-formed : Formed limit (sessionText slip lines)
-    unfolding sessionLines
+    session-formed : FormedBy f limit (sessionTextBy f slip lines)
     session-formed =
-        let e = lines-read slip lines in
+        let e = body-read slip lines fa in
         record {
+          front = fronted slip lines fa;
           degree-line =
               rw e (number-formed (ascii "degree=") refl _ (2 ^ 64) (omega (arith, its-shape .small)) (omega arith));
           degrees =
@@ -129,18 +154,18 @@ module _ (limit : ℕ) (room : limit < width) where
           class = rw e (list-formed limit room (ascii "class=") refl refl its-class);
           steps = rw e (number-formed (ascii "steps=") refl _ (2 ^ 63) (s .steps .small) (omega arith));
           settled = rw e (settled-formed (slip .settled) (s .settled));
-          count = rw e (ap (λ n. field "lines=" (decimal n)) (sym (length-map lines lineText)));
+          count = rw e (ap (λ n. field "lines=" (decimal n)) (sym (length-map lines (lineTextBy f))));
           lines = rw e (all-formed lines (s .each));
         }
 
-    pub text-faultless : fault limit (sessionText slip lines) ≡ 0
-    text-faultless = no-fault limit (sessionText slip lines) session-formed
+    pub text-faultless : faultBy f limit (sessionTextBy f slip lines) ≡ 0
+    text-faultless = no-fault f limit (sessionTextBy f slip lines) session-formed
 
-    pub slip-back : slipIn (sessionText slip lines) ≡ slip
-    unfolding slipIn sessionLines
+    pub slip-back : slipBy f (sessionTextBy f slip lines) ≡ slip
+    unfolding slipBy
     slip-back =
         rw (
-          lines-read slip lines,
+          body-read slip lines fa,
           list-line limit room (ascii "shape=") refl refl its-shape,
           list-line limit room (ascii "class=") refl refl its-class,
           shape-back (slip .shape) (shape-good (s .shape .good)),
@@ -150,8 +175,9 @@ module _ (limit : ℕ) (room : limit < width) where
           forward-same (slip .steps) (s .steps .forward),
           length-map,
           ← s .count,
+          ← s .mode,
         ) refl
 
-    pub lines-back : linesIn (sessionText slip lines) ≡ lines
-    unfolding linesIn sessionLines
-    lines-back = rw (lines-read slip lines) (all-same lines (s .each))
+    pub lines-back : linesBy f (sessionTextBy f slip lines) ≡ lines
+    unfolding linesBy
+    lines-back = rw (body-read slip lines fa) (all-same lines (s .each))

@@ -1,11 +1,9 @@
 -- A text with no line at fault is exactly the text of what it is read as: one session has one text.
-use mathlib.Core.Path.{_≡_, refl, sym, _∙_, ap}
+use mathlib.Core.Path.{_≡_, refl, sym, _∙_, ap, ap₂}
 use Prim.Native.Nat.{_<_}
 use native.Mathlib.Omega.{arith}
-use lib.Signed.{nonNeg}
 use lib.ListN.{length-map}
-use Rattle.theory.specs.Basics.{Bool, true, false, not, List, [], _∷_, map, length, getD, drop, ℕ}
-use Rattle.theory.specs.Basics.{pos, signed, joined}
+use Rattle.theory.specs.Basics.{List, [], _∷_, _++_, map, length, getD, drop, ℕ, suc, joined}
 use Rattle.theory.specs.Basics.Laws.{Each}
 use Rattle.theory.specs.Partition.{Parts}
 use Rattle.theory.specs.Digits.{width}
@@ -14,15 +12,15 @@ use Rattle.theory.specs.ShapeWord.Good.{good-shape}
 use Rattle.theory.specs.ShapeWord.Words.{small-has-room, word-back, rows-good}
 use Rattle.theory.specs.ClassWord.{classWord, classOf}
 use Rattle.theory.specs.ClassWord.Laws.{Held, class-of-word, word-good}
-use Rattle.theory.specs.Bounds.Laws.{abs-signed}
 use Rattle.theory.specs.Refusals.Laws.{Within, WithinClass}
 use Rattle.text.specs.Text.{Text}
-use Rattle.text.specs.Reading.{linesOf}
+use Rattle.text.specs.Reading.{before, linesOf}
 use Rattle.text.specs.Reading.Lines.{lines-whole}
-use Rattle.sessiontext.specs.SessionText.{lineText, sessionLines, sessionText}
-use Rattle.sessiontext.specs.SessionText.Storable.{StorableLine}
-use Rattle.sessiontext.specs.Reading.{minusIn, lineIn, at, following, slipIn, linesIn}
-use Rattle.sessiontext.specs.Reading.Forms.{InLimit, Waiting, Formed}
+use Rattle.sessiontext.specs.SessionText.{Form, lineTextBy, sessionLinesBy, sessionTextBy}
+use Rattle.sessiontext.specs.SessionText.Faithful.{Faithful}
+use Rattle.sessiontext.specs.SessionText.Storable.{StorableLineBy}
+use Rattle.sessiontext.specs.Reading.{lineBy, bodyBy, atBy, followingBy, slipBy, linesBy}
+use Rattle.sessiontext.specs.Reading.Forms.{Fronted, InLimit, WaitingBy, FormedBy}
 
 -- a list that has an element at place 5
 six : (ls : List Text) → (getD ls 5 [] ≡ [] → ⊥)
@@ -35,9 +33,16 @@ six (a ∷ b ∷ c ∷ d ∷ []) n = absurd (n refl)
 six (a ∷ b ∷ c ∷ d ∷ e ∷ []) n = absurd (n refl)
 six (a ∷ b ∷ c ∷ d ∷ e ∷ f ∷ ls) n = refl
 
-pub sign-read : (minus : Bool) → not (nonNeg (signed minus (pos 1))) ≡ minus
-sign-read true = refl
-sign-read false = refl
+drop-none : (n : ℕ) → drop {A = Text} (suc n) [] ≡ []
+drop-none n = refl
+
+-- lines with these in front, and some behind them
+behind-front : (front ls : List Text) → Fronted front ls → (drop (length front) ls ≡ [] → ⊥)
+    → ls ≡ front ++ drop (length front) ls
+behind-front [] ls e some = refl
+behind-front (line ∷ front) [] e some = absurd (some (drop-none (length front)))
+behind-front (line ∷ front) (l ∷ ls) e some =
+    ap₂ _∷_ (e .0) (behind-front front ls (e .1) some)
 
 module _ (limit : ℕ) (room : limit < width) where
   -- ---- words of what is read
@@ -57,52 +62,61 @@ module _ (limit : ℕ) (room : limit < width) where
     pub class-within : WithinClass limit (classWord ps)
     class-within = record { good = word-good held-class; small = rw class-kept (i .small) }
 
-  -- ---- a waiting line
-  module _ {t : Text} (w : Waiting limit t) where
-    pub line-exact : lineText (lineIn t) ≡ t
-    unfolding lineIn
-    line-exact = rw (sign-read (minusIn t), shape-kept (w .shape), class-kept (w .class)) (sym (w .whole))
+  module _ {f : Form} (fa : Faithful f) where
+    -- ---- a waiting line
+    module _ {t : Text} (w : WaitingBy f limit t) where
+      pub line-exact : lineTextBy f (lineBy f t) ≡ t
+      unfolding lineBy
+      line-exact = rw (shape-kept (w .shape), class-kept (w .class)) (sym (w .whole))
 
-    pub line-storable : StorableLine limit (lineIn t)
-    unfolding lineIn
-    line-storable = record {
-      plain = record {
-        unit = abs-signed (minusIn t) (pos 1);
-        shape-fits = omega (arith, shape-within (w .shape) .good .below);
-        class-fits = omega (arith, class-within (w .class) .good .below);
-      };
-      shape = shape-within (w .shape);
-      class = class-within (w .class);
-    }
+      pub line-storable : StorableLineBy fa limit (lineBy f t)
+      unfolding lineBy
+      line-storable = record {
+        kept = fa .fits-kept (before 59 t) (w .fits);
+        shape = shape-within (w .shape);
+        class = class-within (w .class);
+      }
 
-  lines-exact : (ts : List Text) → Each (Waiting limit) ts → map lineText (map lineIn ts) ≡ ts
-  lines-exact [] e = refl
-  lines-exact (t ∷ ts) e = rw (line-exact (e .0), lines-exact ts (e .1))
+      pub line-written : fa .law .Written (lineBy f t)
+      unfolding lineBy
+      line-written =
+          fa .kept-written _ (fa .fits-kept (before 59 t) (w .fits)) (omega (arith, shape-within (w .shape) .good .below))
+          (omega (arith, class-within (w .class) .good .below))
 
-  -- ---- a text
-  module _ (text : Text) (f : Formed limit text) where
-    all-lines : linesOf text
-        ≡ at text 0 ∷ at text 1 ∷ at text 2 ∷ at text 3 ∷ at text 4 ∷ at text 5 ∷ following text
-    all-lines =
-        six (linesOf text) (λ none. omega (arith, ap length (sym none ∙ f .count)))
+    lines-exact : (ts : List Text) → Each (WaitingBy f limit) ts → map (lineTextBy f) (map (lineBy f) ts) ≡ ts
+    lines-exact [] e = refl
+    lines-exact (t ∷ ts) e = rw (line-exact (e .0), lines-exact ts (e .1))
 
-    session-lines : sessionLines (slipIn text) (linesIn text) ≡ linesOf text
-    unfolding sessionLines slipIn linesIn
-    session-lines =
-        rw (
-          shape-kept (f .shape .within),
-          class-kept (f .class .within),
-          ← f .degrees,
-          length-map,
-          lines-exact (following text) (f .lines),
-          ← f .degree-line .whole,
-          ← f .shape .whole,
-          ← f .class .whole,
-          ← f .steps .whole,
-          ← f .settled .whole,
-          ← f .count,
-        ) (sym all-lines)
+    -- ---- a text
+    module _ (text : Text) (g : FormedBy f limit text) where
+      some-line : atBy f text 5 ≡ [] → ⊥
+      some-line none = omega (arith, ap length (sym none ∙ g .count))
 
-    pub text-exact : text ≡ sessionText (slipIn text) (linesIn text)
-    unfolding sessionText
-    text-exact = sym (lines-whole text) ∙ ap (joined (λ t. t)) (sym session-lines)
+      all-lines : linesOf text
+          ≡ f .front
+          ++ (atBy f text 0 ∷ atBy f text 1 ∷ atBy f text 2 ∷ atBy f text 3 ∷ atBy f text 4 ∷ atBy f text 5
+          ∷ followingBy f text)
+      all-lines =
+          behind-front (f .front) (linesOf text) (g .front) (λ none. some-line (ap (λ (ls : List Text). getD ls 5 []) none))
+          ∙ ap (λ (ls : List Text). f .front ++ ls) (six (bodyBy f text) some-line)
+
+      session-lines : sessionLinesBy f (slipBy f text) (linesBy f text) ≡ linesOf text
+      unfolding sessionLinesBy slipBy linesBy
+      session-lines =
+          rw (
+            shape-kept (g .shape .within),
+            class-kept (g .class .within),
+            ← g .degrees,
+            length-map,
+            lines-exact (followingBy f text) (g .lines),
+            ← g .degree-line .whole,
+            ← g .shape .whole,
+            ← g .class .whole,
+            ← g .steps .whole,
+            ← g .settled .whole,
+            ← g .count,
+          ) (sym all-lines)
+
+      pub text-exact : text ≡ sessionTextBy f (slipBy f text) (linesBy f text)
+      unfolding sessionTextBy
+      text-exact = sym (lines-whole text) ∙ ap (joined (λ t. t)) (sym session-lines)

@@ -1,14 +1,11 @@
 -- Each line of a session's text is of its form, and is read as what it was written for.
---   Read ..   what is read off the text of a waiting line of this shape, class and sign
+--   Read ..   what is read off the text of a waiting line of this shape, class and weight
 use mathlib.Core.Path.{_≡_, refl, sym, _∙_, ap}
 use mathlib.Core.List.{append-assoc, append-nil}
 use Prim.Native.Nat.{_≤_, _<_}
 use native.Mathlib.Omega.{arith}
-use lib.Signed.{nonNeg}
-use borrow.Author.Tests.{ltb-true}
-use Rattle.theory.specs.Basics.{Bool, true, false, not, [], _∷_, _++_, ℕ, zero, suc, _^_, ℤ, pos, negsuc, signed}
-use Rattle.theory.specs.Basics.{natAbs, _=?_, every}
-use Rattle.theory.specs.Basics.Laws.{Each}
+use Rattle.theory.specs.Basics.{true, not, [], _∷_, _++_, ℕ, _^_, ℤ, _=?_, every}
+use Rattle.theory.specs.Basics.Laws.{Each, each-append}
 use Rattle.theory.specs.Partition.{Parts, isPartition, degree}
 use Rattle.theory.specs.Partition.Laws.{front}
 use Rattle.theory.specs.Digits.{digits, width}
@@ -26,11 +23,12 @@ use Rattle.text.specs.Reading.Bytes.{before-first, behind-first}
 use Rattle.text.specs.Reading.Numbers.{number-back, integer-back}
 use Rattle.text.specs.Reading.Lists.{Mute, Listed as Number>0, list-back}
 use Rattle.pages.specs.Line.{Line}
-use Rattle.pages.specs.Page.{plain}
-use Rattle.sessiontext.specs.SessionText.{held, waitingText, lineText}
-use Rattle.sessiontext.specs.SessionText.Storable.{StorableLine}
-use Rattle.sessiontext.specs.Reading.{minusIn, shapeIn, classIn, lineIn}
-use Rattle.sessiontext.specs.Reading.Forms.{Number, Integer, InLimit, Listed, Waiting}
+use Rattle.sessiontext.specs.SessionText.{held, Form, weightedText, lineTextBy}
+use Rattle.sessiontext.specs.SessionText.Faithful.{Faithful}
+use Rattle.sessiontext.specs.SessionText.Faithful.Gathered.{held-below}
+use Rattle.sessiontext.specs.SessionText.Storable.{StorableLineBy}
+use Rattle.sessiontext.specs.Reading.{shapeIn, classIn, weightBy, lineBy}
+use Rattle.sessiontext.specs.Reading.Forms.{Number, Integer, InLimit, Listed, WaitingBy}
 
 -- ---- names and newlines are silent
 newline : Mute (ascii "\n")
@@ -49,10 +47,6 @@ module _ (name : Text) (s : every (λ b. not (isDigit b)) name ≡ true) where
       let e = number-line n (omega arith) in
       record { small = rw e h; whole = ap (λ m. textLine name (decimal m)) (sym e) }
 
-pub held-below : (z : ℤ) → held z ≡ true → natAbs z < 10 ^ 20
-held-below (pos n) h = omega (arith, ltb-true n (2 ^ 63) h)
-held-below (negsuc n) h = omega (arith, ltb-true n (2 ^ 63) h)
-
 module _ (z : ℤ) (h : held z ≡ true) where
   pub settled-line : integerIn (field "settled=" (integer z)) ≡ z
   settled-line =
@@ -64,14 +58,6 @@ module _ (z : ℤ) (h : held z ≡ true) where
     fits = ap held settled-line ∙ h;
     whole = ap (λ z. field "settled=" (integer z)) (sym settled-line);
   }
-
--- the sign of a line whose weight is 1 or -1
-pub sign-kept : (w : ℤ) → natAbs w ≡ 1 → signed (not (nonNeg w)) (pos 1) ≡ w
-sign-kept (pos zero) e = absurd (omega arith)
-sign-kept (pos (suc zero)) e = refl
-sign-kept (pos (suc (suc n))) e = absurd (omega arith)
-sign-kept (negsuc zero) e = refl
-sign-kept (negsuc (suc n)) e = absurd (omega arith)
 
 -- ---- lists
 module _ (limit : ℕ) (room : limit < width) where
@@ -125,52 +111,62 @@ module _ (limit : ℕ) (room : limit < width) where
         ap listIn (ap (behind 59) apart ∙ behind-first 59 (listText shape) _ no-semicolon)
         ∙ list-back [] (ascii "\n") (mute [] refl refl) newline class (parts j)
 
-    pub record Read (minus : Bool) : Type 0 where
-      pub its-minus : minusIn (waitingText minus shape class) ≡ minus
-      pub its-shape : shapeIn (waitingText minus shape class) ≡ shape
-      pub its-class : classIn (waitingText minus shape class) ≡ class
+    module _ {f : Form} (fa : Faithful f) (z : ℤ) (kept : fa .Kept z) where
+      abbrev text : Text
+      text = weightedText (f .weightText z) shape class
 
-    waiting-read : (minus : Bool) → Read minus
-    unfolding waitingText
-    waiting-read true = record { its-minus = refl; its-shape = shape-read; its-class = class-read }
-    waiting-read false = record { its-minus = refl; its-shape = shape-read; its-class = class-read }
+      abbrev ahead : Text
+      ahead = ascii "line=" ++ f .weightText z
 
-    pub waiting-formed : (minus : Bool) → Waiting limit (waitingText minus shape class)
-    waiting-formed minus =
-        let read = waiting-read minus in
-        record {
-          shape = rw (read .its-shape) i;
-          class = rw (read .its-class) j;
-          whole = rw (read .its-minus, read .its-shape, read .its-class) refl;
-        }
+      split : text ≡ ahead ++ 59 ∷ tail
+      unfolding weightedText
+      split = simp append-assoc
 
-    pub waiting-same : (minus : Bool) → lineIn (waitingText minus shape class)
-        ≡ plain minus (shapeWord shape) (classWord
-        class)
-    unfolding lineIn
-    waiting-same minus =
-        let read = waiting-read minus in
-        rw (read .its-minus, read .its-shape, read .its-class) refl
+      front-plain : Without 59 ahead
+      front-plain =
+          each-append _ (ascii "line=") (f .weightText z) (each-not (_=? 59) (ascii "line=") refl)
+          (without 43 57 59 (f .weightText z) (λ x l h e. omega arith) (fa .weight-within z))
+
+      pub record Read : Type 0 where
+        pub its-weight : weightBy f text ≡ z
+        pub its-shape : shapeIn text ≡ shape
+        pub its-class : classIn text ≡ class
+
+      waiting-read : Read
+      waiting-read =
+          let behind-it : behind 59 text ≡ tail = ap (behind 59) split ∙ behind-first 59 ahead tail front-plain in
+          record {
+            its-weight =
+                ap (f .weightIn) (ap (before 59) split ∙ before-first 59 ahead tail front-plain) ∙ fa .weight-back z kept;
+            its-shape = ap (λ (u : Text). listIn (before 59 u)) behind-it ∙ shape-read;
+            its-class = ap (λ (u : Text). listIn (behind 59 u)) behind-it ∙ class-read;
+          }
+
+      pub waiting-formed : WaitingBy f limit text
+      waiting-formed =
+          let read = waiting-read in
+          record {
+            fits = rw (read .its-weight) (fa .kept-fits z kept);
+            shape = rw (read .its-shape) i;
+            class = rw (read .its-class) j;
+            whole = rw (read .its-weight, read .its-shape, read .its-class) refl;
+          }
+
+      pub waiting-same : lineBy f text ≡ record { weight = z; shape = shapeWord shape; class = classWord class }
+      unfolding lineBy
+      waiting-same =
+          let read = waiting-read in
+          rw (read .its-weight, read .its-shape, read .its-class) refl
 
   -- a line of a session
-  module _ {l : Line} (s : StorableLine limit l) where
-    abbrev minus : Bool
-    minus = not (nonNeg (l .weight))
+  module _ {f : Form} (fa : Faithful f) {l : Line} (s : StorableLineBy fa limit l) where
+    pub line-formed : WaitingBy f limit (lineTextBy f l)
+    line-formed =
+        waiting-formed (shapeOf (l .shape)) (classOf (l .class)) (shape-in (s .shape)) (class-in (s .class)) fa (l .weight)
+        (s .kept)
 
-    read : Read (shapeOf (l .shape)) (classOf (l .class)) (shape-in (s .shape)) (class-in (s .class)) minus
-    read = waiting-read (shapeOf (l .shape)) (classOf (l .class)) (shape-in (s .shape)) (class-in (s .class)) minus
-
-    pub line-formed : Waiting limit (lineText l)
-    line-formed = waiting-formed (shapeOf (l .shape)) (classOf (l .class)) (shape-in (s .shape)) (class-in (s .class)) minus
-
-    pub line-same : lineIn (lineText l) ≡ l
-    unfolding lineIn
+    pub line-same : lineBy f (lineTextBy f l) ≡ l
     line-same =
-        rw (
-          read .its-minus,
-          read .its-shape,
-          read .its-class,
-          shape-back (l .shape) (shape-good (s .shape .good)),
-          class-same (s .class),
-          sign-kept (l .weight) (s .plain .unit),
-        ) refl
+        waiting-same (shapeOf (l .shape)) (classOf (l .class)) (shape-in (s .shape)) (class-in (s .class)) fa (l .weight)
+        (s .kept)
+        ∙ rw (shape-back (l .shape) (shape-good (s .shape .good)), class-same (s .class)) refl

@@ -1,21 +1,31 @@
 -- What it tells that a line of text is of its form, and that no line is at fault: the tests as records, there and back.
---   Number name bound t     isNumber name bound t, as a record; Integer, InLimit, Listed and Waiting, so too
---   Formed limit text       fault limit text ≡ 0, as a record
-use mathlib.Core.Path.{_≡_, refl}
+--   Fronted front ts        the first of the lines ts are those of front
+--   Number name bound t     isNumber name bound t, as a record; Integer, InLimit, Listed and WaitingBy, so too
+--   FormedBy f limit text   faultBy f limit text ≡ 0, as a record
+--   Waiting, Formed         these by the plain form
+use mathlib.Core.Path.{_≡_, refl, _∙_, ap}
 use Prim.Native.Nat.{_≤_, _<_}
+use native.Mathlib.Nat.{add-suc}
 use native.Mathlib.Omega.{arith}
 use borrow.Author.Tests.{ltb-true, lt-ltb, leb-true, le-leb, eqb-true, eq-eqb, not-false}
-use Rattle.theory.specs.Basics.{Bool, true, false, _&&_, List, [], _∷_, length, ℕ, suc, _^_}
+use Rattle.theory.specs.Basics.{Bool, true, false, _&&_, List, [], _∷_, _++_, length, getD, drop, ℕ, suc, _+_, _^_}
 use Rattle.theory.specs.Basics.{_<?_, _≤?_, every, same}
 use Rattle.theory.specs.Basics.Laws.{Each, both, same-lists, same-self}
 use Rattle.theory.specs.Partition.{Parts, isPartition, degree}
-use Rattle.theory.specs.Refusals.{firstOf}
-use Rattle.theory.specs.Refusals.Laws.{none-applies}
+use Rattle.theory.specs.Refusals.{Check, firstOf}
+use Rattle.theory.specs.Refusals.Laws.{Numbered, none-applies, both-pass, first-passes}
 use Rattle.text.specs.Text.{Text, ascii, decimal, integer, listText, textLine, field}
-use Rattle.text.specs.Reading.{numberIn, integerIn, listIn}
-use Rattle.sessiontext.specs.SessionText.{held, waitingText}
-use Rattle.sessiontext.specs.Reading.{inLimit, isNumber, isInteger, isList, minusIn, shapeIn, classIn}
-use Rattle.sessiontext.specs.Reading.{isWaiting, at, following, lineFaults, faults, fault}
+use Rattle.text.specs.Reading.{numberIn, integerIn, listIn, linesOf}
+use Rattle.sessiontext.specs.SessionText.{held, Form, plainForm, weightedText, waitingText}
+use Rattle.sessiontext.specs.SessionText.Faithful.Plain.{sign-read}
+use Rattle.sessiontext.specs.Reading.{inLimit, isNumber, isInteger, isList, shapeIn, classIn, frontFaults, weightBy}
+use Rattle.sessiontext.specs.Reading.{isWaitingBy, atBy, followingBy, lineFaultsBy, headFaultsBy, faultsBy, faultBy}
+use Rattle.sessiontext.specs.Reading.{minusIn}
+
+-- ---- the lines in front are these
+abbrev pub Fronted : List Text → List Text → Type 0
+Fronted [] ts = Unit {0}
+Fronted (line ∷ front) ts = (getD ts 0 [] ≡ line) × Fronted front (drop 1 ts)
 
 -- ---- lines of text
 pub record Number (name : Text) (bound : ℕ) (t : Text) : Type 0 where
@@ -34,10 +44,14 @@ pub record Listed (limit : ℕ) (name t : Text) : Type 0 where
   pub within : InLimit limit (listIn t)
   pub whole : t ≡ textLine name (listText (listIn t))
 
-pub record Waiting (limit : ℕ) (t : Text) : Type 0 where
+pub record WaitingBy (f : Form) (limit : ℕ) (t : Text) : Type 0 where
+  pub fits : f .fits (weightBy f t) ≡ true
   pub shape : InLimit limit (shapeIn t)
   pub class : InLimit limit (classIn t)
-  pub whole : t ≡ waitingText (minusIn t) (shapeIn t) (classIn t)
+  pub whole : t ≡ weightedText (f .weightText (weightBy f t)) (shapeIn t) (classIn t)
+
+abbrev pub Waiting : ℕ → Text → Type 0
+Waiting limit t = WaitingBy plainForm limit t
 
 pub self : {t u : Text} → t ≡ u → same t u ≡ true
 self {t} e = rw (← e) (same-self t)
@@ -80,59 +94,111 @@ pub list-is : {limit : ℕ} {name t : Text} → Listed limit name t → isList l
 unfolding isList
 list-is {limit} {name} {t} l = rw (limit-in (l .within)) (self (l .whole))
 
-pub is-waiting : (limit : ℕ) (t : Text) → isWaiting limit t ≡ true → Waiting limit t
-unfolding isWaiting
-is-waiting limit t e =
-    let b = both (inLimit limit (shapeIn t) && inLimit limit (classIn t)) _ e in
-    let a = both (inLimit limit (shapeIn t)) (inLimit limit (classIn t)) (b .0) in
-    record {
-      shape = in-limit limit (shapeIn t) (a .0);
-      class = in-limit limit (classIn t) (a .1);
-      whole = same-lists t _ (b .1);
-    }
+module _ (f : Form) (limit : ℕ) (t : Text) where
+  pub is-waiting : isWaitingBy f limit t ≡ true → WaitingBy f limit t
+  unfolding isWaitingBy
+  is-waiting e =
+      let c = both (f .fits (weightBy f t)) _ e in
+      let b = both (inLimit limit (shapeIn t) && inLimit limit (classIn t)) _ (c .1) in
+      let a = both (inLimit limit (shapeIn t)) (inLimit limit (classIn t)) (b .0) in
+      record {
+        fits = c .0;
+        shape = in-limit limit (shapeIn t) (a .0);
+        class = in-limit limit (classIn t) (a .1);
+        whole = same-lists t _ (b .1);
+      }
 
-pub waiting-is : {limit : ℕ} {t : Text} → Waiting limit t → isWaiting limit t ≡ true
-unfolding isWaiting
-waiting-is w = rw (limit-in (w .shape), limit-in (w .class)) (self (w .whole))
+  pub waiting-is : WaitingBy f limit t → isWaitingBy f limit t ≡ true
+  unfolding isWaitingBy
+  waiting-is w = rw (w .fits, limit-in (w .shape), limit-in (w .class)) (self (w .whole))
+
+-- a line of the plain form has a sign
+pub signed-whole : {limit : ℕ} {t : Text} → Waiting limit t → t ≡ waitingText (minusIn t) (shapeIn t) (classIn t)
+signed-whole {t = t} w =
+    w .whole ∙ ap (λ b. waitingText b (shapeIn t) (classIn t)) (sign-read (minusIn t))
 
 -- ---- a text
-pub record Formed (limit : ℕ) (text : Text) : Type 0 where
-  pub degree-line : Number (ascii "degree=") (2 ^ 64) (at text 0)
-  pub degrees : numberIn (at text 0) ≡ degree (listIn (at text 1))
-  pub shape : Listed limit (ascii "shape=") (at text 1)
-  pub class : Listed limit (ascii "class=") (at text 2)
-  pub steps : Number (ascii "steps=") (2 ^ 63) (at text 3)
-  pub settled : Integer (ascii "settled=") (at text 4)
-  pub count : at text 5 ≡ field "lines=" (decimal (length (following text)))
-  pub lines : Each (Waiting limit) (following text)
+pub record FormedBy (f : Form) (limit : ℕ) (text : Text) : Type 0 where
+  pub front : Fronted (f .front) (linesOf text)
+  pub degree-line : Number (ascii "degree=") (2 ^ 64) (atBy f text 0)
+  pub degrees : numberIn (atBy f text 0) ≡ degree (listIn (atBy f text 1))
+  pub shape : Listed limit (ascii "shape=") (atBy f text 1)
+  pub class : Listed limit (ascii "class=") (atBy f text 2)
+  pub steps : Number (ascii "steps=") (2 ^ 63) (atBy f text 3)
+  pub settled : Integer (ascii "settled=") (atBy f text 4)
+  pub count : atBy f text 5 ≡ field "lines=" (decimal (length (followingBy f text)))
+  pub lines : Each (WaitingBy f limit) (followingBy f text)
 
-module _ (limit : ℕ) where
-  numbered : (k : ℕ) (ts : List Text) → every (λ row. 0 <? row .1) (lineFaults limit (suc k) ts) ≡ true
+-- ---- the lines in front
+numbered-front : (k : ℕ) (front ts : List Text) → Numbered (frontFaults (suc k) front ts)
+numbered-front k [] ts = refl
+numbered-front k (line ∷ front) ts = rw (lt-ltb 0 (suc k) (omega arith)) (numbered-front (suc k) front (drop 1 ts))
+
+is-fronted : (k : ℕ) (front ts : List Text) → Each (λ row. row .0 ≡ false) (frontFaults k front ts) → Fronted front ts
+is-fronted k [] ts e = tt
+is-fronted k (line ∷ front) ts e =
+    (same-lists _ line (not-false _ (e .0)), is-fronted (suc k) front (drop 1 ts) (e .1))
+
+no-front-fault : (k : ℕ) (front ts : List Text) → Fronted front ts → firstOf (frontFaults k front ts) ≡ 0
+no-front-fault k [] ts e = refl
+no-front-fault k (line ∷ front) ts e =
+    rw (self (e .0)) (no-front-fault (suc k) front (drop 1 ts) (e .1))
+
+module _ (f : Form) (limit : ℕ) where
+  numbered : (k : ℕ) (ts : List Text) → Numbered (lineFaultsBy f limit (suc k) ts)
   numbered k [] = refl
   numbered k (t ∷ ts) = rw (lt-ltb 0 (suc k) (omega arith)) (numbered (suc k) ts)
 
-  all-waiting : (k : ℕ) (ts : List Text) → Each (λ row. row .0 ≡ false) (lineFaults limit k ts) → Each (Waiting limit)
-      ts
+  all-waiting : (k : ℕ) (ts : List Text) → Each (λ row. row .0 ≡ false) (lineFaultsBy f limit k ts)
+      → Each (WaitingBy f limit) ts
   all-waiting k [] e = tt
   all-waiting k (t ∷ ts) e =
-      (is-waiting limit t (not-false (isWaiting limit t) (e .0)), all-waiting (suc k) ts (e .1))
+      (is-waiting f limit t (not-false (isWaitingBy f limit t) (e .0)), all-waiting (suc k) ts (e .1))
 
-  pub no-line-fault : (k : ℕ) (ts : List Text) → Each (Waiting limit) ts → firstOf (lineFaults limit k ts) ≡ 0
+  pub no-line-fault : (k : ℕ) (ts : List Text) → Each (WaitingBy f limit) ts → firstOf (lineFaultsBy f limit k ts) ≡ 0
   no-line-fault k [] e = refl
-  no-line-fault k (t ∷ ts) e = rw (waiting-is (e .0)) (no-line-fault (suc k) ts (e .1))
+  no-line-fault k (t ∷ ts) e = rw (waiting-is f limit t (e .0)) (no-line-fault (suc k) ts (e .1))
 
   module _ (text : Text) where
-    abbrev shape-formed : Bool
-    shape-formed = isList limit (ascii "shape=") (at text 1)
+    abbrev n : ℕ
+    n = length (f .front)
 
-    pub formed : fault limit text ≡ 0 → Formed limit text
-    unfolding fault faults
+    abbrev shape-formed : Bool
+    shape-formed = isList limit (ascii "shape=") (atBy f text 1)
+
+    abbrev heads : List Check
+    heads = headFaultsBy f limit text
+
+    abbrev rest : List Check
+    rest = lineFaultsBy f limit (n + 7) (followingBy f text)
+
+    numbered-rest : Numbered rest
+    numbered-rest = rw (add-suc n 6) (numbered (n + 6) (followingBy f text))
+
+    numbered-heads : Numbered heads
+    numbered-heads = rw (
+      lt-ltb 0 (n + 1) (omega arith),
+      lt-ltb 0 (n + 2) (omega arith),
+      lt-ltb 0 (n + 3) (omega arith),
+      lt-ltb 0 (n + 4) (omega arith),
+      lt-ltb 0 (n + 5) (omega arith),
+      lt-ltb 0 (n + 6) (omega arith),
+    ) refl
+
+    pub formed : faultBy f limit text ≡ 0 → FormedBy f limit text
+    unfolding faultBy faultsBy
     formed e =
-        let a = none-applies (faults limit text) (numbered 6 (following text)) e in
+        let front : List Check = frontFaults 1 (f .front) (linesOf text) in
+        let (in-front, behind) = both-pass front (heads ++ rest) (numbered-front 0 (f .front) (linesOf text)) e in
+        let (head, after) = both-pass heads rest numbered-heads behind in
+        let a = none-applies heads numbered-heads head in
         let s = not-false shape-formed (a .1 .1 .0) in
         let d = rw s at (a .1 .0) in
         let h = a .1 .1 .1 in
         record {
+          front =
+              is-fronted 1 (f .front) (linesOf text)
+              (none-applies front (numbered-front 0 (f .front) (linesOf text)) in-front);
           degree-line = is-number _ _ _ (not-false _ (a .0));
           degrees = eqb-true _ _ (not-false _ d);
           shape = is-list limit _ _ s;
@@ -140,17 +206,24 @@ module _ (limit : ℕ) where
           steps = is-number _ _ _ (not-false _ (h .1 .0));
           settled = is-integer _ _ (not-false _ (h .1 .1 .0));
           count = same-lists _ _ (not-false _ (h .1 .1 .1 .0));
-          lines = all-waiting 7 (following text) (h .1 .1 .1 .1);
+          lines = all-waiting (n + 7) (followingBy f text) (none-applies rest numbered-rest after);
         }
 
-    pub no-fault : Formed limit text → fault limit text ≡ 0
-    unfolding fault faults
-    no-fault f = rw (
-      number-is (f .degree-line),
-      eq-eqb _ _ (f .degrees),
-      list-is (f .shape),
-      list-is (f .class),
-      number-is (f .steps),
-      integer-is (f .settled),
-      self (f .count),
-    ) (no-line-fault 7 (following text) (f .lines))
+    pub no-fault : FormedBy f limit text → faultBy f limit text ≡ 0
+    unfolding faultBy faultsBy
+    no-fault g =
+        first-passes (frontFaults 1 (f .front) (linesOf text)) (heads ++ rest) (numbered-front 0 (f .front) (linesOf text))
+        (no-front-fault 1 (f .front) (linesOf text) (g .front))
+        ∙ rw (
+          number-is (g .degree-line),
+          eq-eqb _ _ (g .degrees),
+          list-is (g .shape),
+          list-is (g .class),
+          number-is (g .steps),
+          integer-is (g .settled),
+          self (g .count),
+        ) (no-line-fault (n + 7) (followingBy f text) (g .lines))
+
+-- ---- by the plain form
+abbrev pub Formed : ℕ → Text → Type 0
+Formed limit text = FormedBy plainForm limit text

@@ -3,17 +3,19 @@
 --   NumberText name bound t    there is a number below the bound whose line of this name t is
 --   IntegerText t              there is a signed number of 64 bits whose `settled` line t is
 --   PartsText limit name t     there is a partition within the limit whose line of this name t is
---   WaitingText limit t        there are a sign and two partitions within the limit whose `line` line t is
+--   WaitingText fa limit t     there are a weight that comes back (the plain form's: 1 or -1) and two partitions within
+--                              the limit whose `line` line t is
 --   Silent name                a name without digits and commas
 use mathlib.Core.Path.{_≡_}
 use Prim.Native.Nat.{_≤_, _<_}
-use Rattle.theory.specs.Basics.{Bool, true, not, ℕ, _^_, ℤ, _=?_, every}
+use Rattle.theory.specs.Basics.{true, not, ℕ, _^_, ℤ, _=?_, every}
 use Rattle.theory.specs.Partition.{Parts}
 use Rattle.theory.specs.Digits.{width}
 use Rattle.text.specs.Text.{Text, ascii, decimal, integer, listText, textLine, field}
-use Rattle.text.specs.Reading.{isDigit, numberIn, integerIn, listIn}
-use Rattle.sessiontext.specs.SessionText.{held, waitingText}
-use Rattle.sessiontext.specs.Reading.{isNumber, isInteger, isList, minusIn, shapeIn, classIn, isWaiting}
+use Rattle.text.specs.Reading.{isDigit, numberIn, integerIn, before, listIn}
+use Rattle.sessiontext.specs.SessionText.{held, Form, weightedText}
+use Rattle.sessiontext.specs.SessionText.Faithful.{Faithful}
+use Rattle.sessiontext.specs.Reading.{isNumber, isInteger, isList, shapeIn, classIn, weightBy, isWaitingBy}
 use Rattle.sessiontext.specs.Reading.Forms.{InLimit, is-number, number-is, is-integer, integer-is}
 use Rattle.sessiontext.specs.Reading.Forms.{is-list, list-is, is-waiting, waiting-is}
 use Rattle.sessiontext.specs.Reading.Fields.{number-formed, settled-formed, list-formed, waiting-formed}
@@ -33,13 +35,14 @@ pub record PartsText (limit : ℕ) (name t : Text) : Type 0 where
   pub within : InLimit limit parts
   pub whole : t ≡ textLine name (listText parts)
 
-pub record WaitingText (limit : ℕ) (t : Text) : Type 0 where
-  pub minus : Bool
+pub record WaitingText {f : Form} (fa : Faithful f) (limit : ℕ) (t : Text) : Type 0 where
+  pub weight : ℤ
+  pub kept : fa .Kept weight
   pub shape : Parts
   pub class : Parts
   pub shape-within : InLimit limit shape
   pub class-within : InLimit limit class
-  pub whole : t ≡ waitingText minus shape class
+  pub whole : t ≡ weightedText (f .weightText weight) shape class
 
 pub record Silent (name : Text) : Type 0 where
   pub no-digit : every (λ b. not (isDigit b)) name ≡ true
@@ -69,13 +72,14 @@ integer-text t = (
   λ n. rw (n .whole) (integer-is (settled-formed (n .number) (n .fits))),
 )
 
-pub waiting-text : (limit : ℕ) → limit < width → (t : Text)
-    → (isWaiting limit t ≡ true → WaitingText limit t) × (WaitingText limit t → isWaiting limit t ≡ true)
-waiting-text limit room t = (
+pub waiting-text : {f : Form} (fa : Faithful f) (limit : ℕ) → limit < width → (t : Text)
+    → (isWaitingBy f limit t ≡ true → WaitingText fa limit t) × (WaitingText fa limit t → isWaitingBy f limit t ≡ true)
+waiting-text {f} fa limit room t = (
   λ e.
-      let w = is-waiting limit t e in
+      let w = is-waiting f limit t e in
       record {
-        minus = minusIn t;
+        weight = weightBy f t;
+        kept = fa .fits-kept (before 59 t) (w .fits);
         shape = shapeIn t;
         class = classIn t;
         shape-within = w .shape;
@@ -84,5 +88,6 @@ waiting-text limit room t = (
       },
   λ w.
       rw (w .whole)
-      (waiting-is (waiting-formed limit room (w .shape) (w .class) (w .shape-within) (w .class-within) (w .minus))),
+      (waiting-is f limit _
+      (waiting-formed limit room (w .shape) (w .class) (w .shape-within) (w .class-within) fa (w .weight) (w .kept))),
 )

@@ -3,23 +3,26 @@
 --   Halfway ..   where a session stands between two of its calls: so far it is a session, of which demand 3 is true
 use Rattle.theory.specs.Basics.{List, _++_, ℕ}
 use Rattle.theory.specs.Limits.{degreeLimit}
+use Rattle.sessiontext.specs.SessionText.{Form}
+use Rattle.sessiontext.specs.SessionText.Faithful.{Faithful}
 use Rattle.sessiontext.specs.Run.{Call, Standing, begun, Run, Session}
 use Rattle.sessiontext.specs.Run.Parts.{run-splits}
 use Rattle.sessiontext.specs.Run.Demand3.{Demand3, demand-3}
 
-module _ (shape class : ℕ) (p : List ℕ) (before later : List Call) (end : Standing) where
+module _ {f : Form} (fa : Faithful f) (shape class : ℕ) (x : f .mode .Lent) (before later : List (Call (f .mode .Lent)))
+    (end : Standing (f .mode .Lent)) where
   pub record Halfway : Type 0 where
-    pub halfway : Standing
-    pub so-far : Session degreeLimit shape class p before halfway
-    pub demand : Demand3 shape class p before halfway
-    pub goes-on : Run degreeLimit halfway later end
+    pub halfway : Standing (f .mode .Lent)
+    pub so-far : Session f degreeLimit shape class x before halfway
+    pub demand : Demand3 fa shape class x before halfway
+    pub goes-on : Run f degreeLimit halfway later end
 
-  pub demand-3-always : Session degreeLimit shape class p (before ++ later) end → Halfway
+  pub demand-3-always : Session f degreeLimit shape class x (before ++ later) end → Halfway
   demand-3-always s =
-      let b = run-splits degreeLimit (begun (s .answer .slip) (s .page)) before later end (s .goes-on) in
-      let so-far : Session degreeLimit shape class p before (b .halfway) = record {
+      let b = run-splits f degreeLimit (begun (s .answer .slip) (s .lent)) before later end (s .goes-on) in
+      let so-far : Session f degreeLimit shape class x before (b .halfway) = record {
         answer = s .answer;
-        page = s .page;
+        lent = s .lent;
         promised = s .promised;
         accepted = s .accepted;
         goes-on = b .so-far;
@@ -27,6 +30,6 @@ module _ (shape class : ℕ) (p : List ℕ) (before later : List Call) (end : St
       record {
         halfway = b .halfway;
         so-far = so-far;
-        demand = demand-3 shape class p before (b .halfway) so-far;
+        demand = demand-3 fa shape class x before (b .halfway) so-far;
         goes-on = b .goes-on;
       }

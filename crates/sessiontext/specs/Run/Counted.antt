@@ -7,32 +7,34 @@ use native.Mathlib.Omega.{arith}
 use borrow.Author.Tests.{not-true}
 use Rattle.theory.specs.Basics.{Bool, true, false, not, cond, List, [], _∷_, length, ℕ, _+_, _=?_, keep, count, every}
 use Rattle.theory.specs.Basics.Laws.{both}
+use Rattle.sessiontext.specs.SessionText.{Form}
 use Rattle.sessiontext.specs.Run.{Call, opened, previewed, committed, watched, saved, loaded, Standing, after, Run}
 
-abbrev pub isStep : Call → Bool
-isStep (opened shape class a q) = false
+abbrev pub isStep : {L : Type 0} → Call L → Bool
+isStep (opened shape class a y) = false
 isStep (previewed line cycle strip a left) = false
-isStep (committed line cycle strip a q) = a .refused =? 0
+isStep (committed line cycle strip a y) = a .refused =? 0
 isStep (watched kind line a) = false
 isStep (saved out a left) = false
-isStep (loaded text a q) = false
+isStep (loaded text a y) = false
 
-abbrev pub isLoad : Call → Bool
-isLoad (opened shape class a q) = false
+abbrev pub isLoad : {L : Type 0} → Call L → Bool
+isLoad (opened shape class a y) = false
 isLoad (previewed line cycle strip a left) = false
-isLoad (committed line cycle strip a q) = false
+isLoad (committed line cycle strip a y) = false
 isLoad (watched kind line a) = false
 isLoad (saved out a left) = false
-isLoad (loaded text a q) = a .refused =? 0
+isLoad (loaded text a y) = a .refused =? 0
 
-abbrev pub acceptedSteps : List Call → ℕ
+abbrev pub acceptedSteps : {L : Type 0} → List (Call L) → ℕ
 acceptedSteps calls = count isStep calls
 
-abbrev pub Unloaded : List Call → Type 0
+abbrev pub Unloaded : {L : Type 0} → List (Call L) → Type 0
 Unloaded calls = every (λ call. not (isLoad call)) calls ≡ true
 
 -- one call more
-counts-more : (calls : List Call) (call : Call) → count isStep (call ∷ calls) ≡ cond (isStep call) 1 0 + count isStep calls
+counts-more : {L : Type 0} (calls : List (Call L)) (call : Call L)
+    → count isStep (call ∷ calls) ≡ cond (isStep call) 1 0 + count isStep calls
 counts-more calls call = go (isStep call)
   where
     go : (b : Bool) → length (cond b (call ∷ keep isStep calls) (keep isStep calls)) ≡ cond b 1 0 + count isStep calls
@@ -40,24 +42,25 @@ counts-more calls call = go (isStep call)
     go false = omega arith
 
 -- a call that is no accepted load counts itself, if it is an accepted commit
-counts : (now : Standing) (call : Call) → not (isLoad call) ≡ true
+counts : {L : Type 0} (now : Standing L) (call : Call L) → not (isLoad call) ≡ true
     → after now call .counted ≡ now .counted + cond (isStep call) 1 0
-counts now (opened shape class a q) e = omega arith
+counts now (opened shape class a y) e = omega arith
 counts now (previewed line cycle strip a left) e = omega arith
-counts now (committed line cycle strip a q) e = refl
+counts now (committed line cycle strip a y) e = refl
 counts now (watched kind line a) e = omega arith
 counts now (saved out a left) e = omega arith
-counts now (loaded text a q) e = rw (not-true (a .refused =? 0) e) (omega arith)
+counts now (loaded text a y) e = rw (not-true (a .refused =? 0) e) (omega arith)
 
-pub steps-are-counted : (limit : ℕ) (now : Standing) (calls : List Call) (end : Standing) → Run limit now calls end
+pub steps-are-counted : (f : Form) (limit : ℕ) (now : Standing (f .mode .Lent)) (calls : List (Call (f .mode .Lent)))
+    (end : Standing (f .mode .Lent)) → Run f limit now calls end
     → Unloaded calls → end .counted ≡ now .counted + acceptedSteps calls
 unfolding Run
-steps-are-counted limit now [] end r u = rw r (omega arith)
-steps-are-counted limit now (call ∷ calls) end r u =
+steps-are-counted f limit now [] end r u = rw r (omega arith)
+steps-are-counted f limit now (call ∷ calls) end r u =
     let each = both (not (isLoad call)) (every (λ call. not (isLoad call)) calls) u in
     omega (
       arith,
-      steps-are-counted limit (after now call) calls end (r .2) (each .1),
+      steps-are-counted f limit (after now call) calls end (r .2) (each .1),
       counts now call (each .0),
       counts-more calls call,
     )

@@ -1,87 +1,93 @@
 -- What every call of a run keeps: a commit by its own laws, a load since its text is that of a session which kept it.
---   Stored s p save   the text was saved of a slip and a page that s and p led to, with as many steps
---   Stands s p now    s and p led to the slip and page of `now`, and to those of whatever was saved
+--   Stored s x save   the text was saved of a slip and of what was lent that s and x led to, with as many steps
+--   Stands s x now    s and x led to the slip of `now` and what is lent there, and to those of whatever was saved
 use mathlib.Core.Path.{_≡_, refl, sym, _∙_, ap}
 use Prim.Native.Nat.{_≤_}
 use native.Mathlib.Omega.{arith}
-use lib.ListN.{length-map}
-use lib.Seq.{length-take-le}
 use borrow.Author.Tests.{eqb-true, eqb-false}
 use Rattle.theory.specs.Basics.{Bool, true, false, cond, List, [], _∷_, map, length, getD, take, ℕ, _=?_, keep, same}
 use Rattle.theory.specs.Basics.Laws.{Each, same-lists}
-use Rattle.theory.specs.Limits.{degreeLimit, pageLimit}
+use Rattle.theory.specs.Limits.{degreeLimit}
+use Rattle.theory.specs.Refusals.{firstOf}
 use Rattle.words.specs.declared.CountAnswer.{CountAnswer}
 use Rattle.words.specs.Answers.{Outcome}
 use Rattle.text.specs.Text.{Text}
 use Rattle.pages.specs.declared.Slip.{Slip}
 use Rattle.characters.specs.declared.Handed.{Handed}
 use Rattle.pages.specs.Line.{Line}
-use Rattle.pages.specs.Page.{lineOf, waiting, padded, worth}
-use Rattle.pages.specs.Page.Words.{plain-lines}
-use Rattle.pages.specs.Page.Padded.{length-padded}
-use Rattle.pages.specs.Sound.Padded.{waiting-padded, sound-padded}
+use Rattle.pages.specs.Page.{worth}
+use Rattle.pages.specs.Mode.{Mode, waitingIn}
+use Rattle.pages.specs.Lawful.Put.{waiting-put, sound-put}
 use Rattle.characters.specs.Opening.Laws.{refused-opening}
-use Rattle.sessiontext.specs.SessionText.{sessionText}
-use Rattle.sessiontext.specs.Calls.{Loaded, loaded as loadedAs, saveInto, loadInto}
+use Rattle.sessiontext.specs.SessionText.{Form, sessionTextBy}
+use Rattle.sessiontext.specs.SessionText.Faithful.{Faithful}
+use Rattle.sessiontext.specs.Calls.{Loaded, loaded as loadedAs, saveBy, loadBy}
 use Rattle.sessiontext.specs.Calls.Laws.{saved-text, saved-loads, refused-load}
 use Rattle.sessiontext.specs.Run.{Call, opened, previewed, committed, watched, saved, loaded, Saves, countsAt, Standing}
 use Rattle.sessiontext.specs.Run.{Promised, Belongs, after, Run}
-use Rattle.sessiontext.specs.Run.Leads.{relaid, Leads, and-then, commit-leads}
+use Rattle.sessiontext.specs.Run.Leads.{Leads, and-then, commit-leads}
 
-module _ (s : Slip) (p : List ℕ) where
+module _ {f : Form} (fa : Faithful f) (s : Slip) (x : f .mode .Lent) where
+  abbrev m : Mode
+  m = f .mode
+
   pub record Stored (save : Text × ℕ) : Type 0 where
     pub slip : Slip
-    pub page : List ℕ
-    pub leads : Leads degreeLimit s p (save .1) slip page
-    pub short : length page ≤ pageLimit
-    pub text : save .0 ≡ sessionText slip (waiting slip page)
+    pub lent : m .Lent
+    pub leads : Leads m degreeLimit s x (save .1) slip lent
+    pub passes : firstOf (m .lentChecks lent) ≡ 0
+    pub text : save .0 ≡ sessionTextBy f slip (waitingIn m slip lent)
 
-  pub record Stands (now : Standing) : Type 0 where
-    pub leads : Leads degreeLimit s p (now .counted) (now .slip) (now .page)
+  pub record Stands (now : Standing (m .Lent)) : Type 0 where
+    pub leads : Leads m degreeLimit s x (now .counted) (now .slip) (now .lent)
     pub stored : Each Stored (now .saves)
 
-  unfoldable pub save-stored : {k : ℕ} {t : Slip} {q : List ℕ} → Leads degreeLimit s p k t q
-      → (out : Text) {a : CountAnswer} {left : Text} → Outcome (saveInto degreeLimit t q out) a left → a .refused ≡ 0
+  unfoldable pub save-stored : {k : ℕ} {t : Slip} {y : m .Lent} → Leads m degreeLimit s x k t y
+      → (out : Text) {a : CountAnswer} {left : Text} → Outcome (saveBy f degreeLimit t y out) a left → a .refused ≡ 0
       → Stored (take (a .count) left, k)
-  save-stored {k} {t} {q} l out o none =
-      let x = saved-text t q out (ap (λ (c : CountAnswer). c .refused) (sym (o .answers)) ∙ none) in
-      record { slip = t; page = q; leads = l; short = x .short; text = rw (o .answers, o .leaves) (x .text) }
+  save-stored {k} {t} {y} l out o none =
+      let saved = saved-text fa t y out (ap (λ (c : CountAnswer). c .refused) (sym (o .answers)) ∙ none) in
+      record { slip = t; lent = y; leads = l; passes = saved .lent; text = rw (o .answers, o .leaves) (saved .text) }
 
-  -- a stored text is loaded as the session that it was saved of, on a page of the same length
-  module _ {save : Text × ℕ} (st : Stored save) (q : List ℕ) (long : length q ≡ length p) where
+  -- a stored text is loaded as the session that it was saved of, where the page is as long
+  module _ {save : Text × ℕ} (st : Stored save) (y : m .Lent) (passes : firstOf (m .lentChecks y) ≡ 0)
+      (long : length (m .page y) ≡ length (m .page x)) where
     abbrev lines : List Line
-    lines = waiting (st .slip) (st .page)
+    lines = waitingIn m (st .slip) (st .lent)
 
-    same-long : length (st .page) ≡ length q
+    same-long : length (m .page (st .lent)) ≡ length (m .page y)
     same-long = st .leads .same-length ∙ sym long
 
     count : st .slip .lines ≡ length lines
-    count = sym
-        (length-map (take (st .slip .lines) (st .page)) lineOf
-        ∙ length-take-le (st .slip .lines) (st .page) (st .leads .soundness .fit))
+    count = sym (fa .law .waits-length (st .slip .lines) (st .lent) (st .passes) (st .leads .soundness .fit))
 
-    room : length lines ≤ length q
+    room : length lines ≤ length (m .page y)
     room = omega (arith, count, same-long, st .leads .soundness .fit)
 
-    pub stored-loads : loadInto degreeLimit (save .0) q ≡ (loadedAs 0 0 (st .slip), padded lines q)
+    pub stored-loads : loadBy f degreeLimit (save .0) y ≡ (loadedAs 0 0 (st .slip), m .put lines y)
     stored-loads =
-        ap (λ text. loadInto degreeLimit text q) (st .text)
-        ∙ saved-loads (st .leads .soundness) (st .short) q (omega (arith, same-long, st .short)) room
+        ap (λ text. loadBy f degreeLimit text y) (st .text)
+        ∙ saved-loads fa (st .leads .soundness) (st .passes) y passes room
 
-    pub load-leads : Leads degreeLimit s p (save .1) (st .slip) (padded lines q)
+    pub load-leads : Leads m degreeLimit s x (save .1) (st .slip) (m .put lines y)
     load-leads =
-        let plain = plain-lines (take (st .slip .lines) (st .page)) in
-        let back : waiting (st .slip) (padded lines q) ≡ lines = waiting-padded (st .slip) lines q count plain in
+        let written = fa .law .written-waits (st .slip .lines) (st .lent) in
+        let back : waitingIn m (st .slip) (m .put lines y) ≡ lines =
+        waiting-put (fa .law) (st .slip) lines y count written in
         let l = st .leads in
+        let still = fa .law .lent-put lines y passes room in
         record {
-          soundness = sound-padded (st .slip) lines q count plain degreeLimit room (l .soundness .lines);
+          soundness =
+              sound-put (fa .law) (st .slip) lines y count written degreeLimit (l .soundness .mode) room
+              (l .soundness .stands) (l .soundness .lines);
           same-worth = ap (worth (st .slip)) back ∙ l .same-worth;
           counted = l .counted;
           same-shape = l .same-shape;
           same-class = l .same-class;
-          same-length = length-padded lines q room ∙ long;
-          laid = λ _. relaid lines q (padded lines q) (sym (length-padded lines q room))
-              ∙ ap (λ ls. padded ls (padded lines q)) (sym back);
+          same-length = fa .law .length-put lines y room ∙ long;
+          still-lent = λ _. still;
+          laid = λ _. fa .law .put-alike lines y (m .put lines y) passes still (sym (fa .law .length-put lines y room))
+              ∙ ap (λ ls. m .put ls (m .put lines y)) (sym back);
         }
 
   -- the latest save of a text
@@ -100,48 +106,52 @@ module _ (s : Slip) (p : List ℕ) where
       go true x earlier some = rw (same-lists text (save .0) x) (e .0)
       go false x earlier some = earlier some
 
-  -- ---- a call
-  pub call-stands : (now : Standing) (call : Call) → Promised degreeLimit (now .slip) (now .page) call
-      → Belongs (now .saves) call → Stands now → Stands (after now call)
-  call-stands now (opened shape class a q) o b w =
-      let number = ap (λ (h : Handed). h .refused) (o .answers) in
-      let e : q ≡ now .page = o .leaves ∙ refused-opening degreeLimit shape class (now .page) (λ z. b (number ∙ z)) in
-      rw e w
-  call-stands now (previewed line cycle strip a left) o b w = w
-  call-stands now (committed line cycle strip a q) o b w =
-      record {
-        leads = and-then (w .leads)
-            (rw (o .answers, o .leaves)
-            (commit-leads degreeLimit (now .slip) (now .page) line cycle strip (w .leads .soundness)));
-        stored = w .stored;
-      }
-  call-stands now (watched kind line a) o b w = w
-  call-stands now (saved out a left) o b w = record { leads = w .leads; stored = go (a .refused =? 0) refl }
-    where
-      go : (x : Bool) → a .refused =? 0 ≡ x
-          → Each Stored (cond x ((take (a .count) left, now .counted) ∷ now .saves) (now .saves))
-      go true e = (save-stored (w .leads) out o (eqb-true (a .refused) 0 e), w .stored)
-      go false e = w .stored
-  call-stands now (loaded text a q) o b w = record { leads = go (a .refused =? 0) refl; stored = w .stored }
-    where
-      number : a .refused ≡ loadInto degreeLimit text (now .page) .0 .refused
-      number = ap (λ (x : Loaded). x .refused) (o .answers)
+  -- ---- a call, where what was lent first passes its checks
+  module _ (lent : firstOf (m .lentChecks x) ≡ 0) where
+    pub call-stands : (now : Standing (m .Lent)) (call : Call (m .Lent))
+        → Promised f degreeLimit (now .slip) (now .lent) call → Belongs (now .saves) call → Stands now
+        → Stands (after now call)
+    call-stands now (opened shape class a y) o b w =
+        let number = ap (λ (h : Handed). h .refused) (o .answers) in
+        let e : y ≡ now .lent =
+        o .leaves ∙ refused-opening (fa .law) degreeLimit shape class (now .lent) (λ z. b (number ∙ z)) in
+        rw e w
+    call-stands now (previewed line cycle strip a left) o b w = w
+    call-stands now (committed line cycle strip a y) o b w =
+        record {
+          leads = and-then (w .leads)
+              (rw (o .answers, o .leaves)
+              (commit-leads (fa .law) degreeLimit (now .slip) (now .lent) line cycle strip (w .leads .soundness)));
+          stored = w .stored;
+        }
+    call-stands now (watched kind line a) o b w = w
+    call-stands now (saved out a left) o b w = record { leads = w .leads; stored = go (a .refused =? 0) refl }
+      where
+        go : (c : Bool) → a .refused =? 0 ≡ c
+            → Each Stored (cond c ((take (a .count) left, now .counted) ∷ now .saves) (now .saves))
+        go true e = (save-stored (w .leads) out o (eqb-true (a .refused) 0 e), w .stored)
+        go false e = w .stored
+    call-stands now (loaded text a y) o b w = record { leads = go (a .refused =? 0) refl; stored = w .stored }
+      where
+        number : a .refused ≡ loadBy f degreeLimit text (now .lent) .0 .refused
+        number = ap (λ (r : Loaded). r .refused) (o .answers)
 
-      go : (x : Bool) → a .refused =? 0 ≡ x
-          → Leads degreeLimit s p (cond x (getD (countsAt text (now .saves)) 0 0) (now .counted))
-          (cond x (a .slip) (now .slip)) q
-      go true e =
-          let st = latest text (now .saves) (w .stored) (b (eqb-true (a .refused) 0 e)) in
-          let gives = stored-loads st (now .page) (w .leads .same-length) in
-          rw (o .answers, o .leaves, gives) (load-leads st (now .page) (w .leads .same-length))
-      go false e =
-          let same : q ≡ now .page =
-          o .leaves ∙ refused-load text (now .page) (λ z. eqb-false (a .refused) 0 e (number ∙ z)) in
-          rw same (w .leads)
+        go : (c : Bool) → a .refused =? 0 ≡ c
+            → Leads m degreeLimit s x (cond c (getD (countsAt text (now .saves)) 0 0) (now .counted))
+            (cond c (a .slip) (now .slip)) y
+        go true e =
+            let st = latest text (now .saves) (w .stored) (b (eqb-true (a .refused) 0 e)) in
+            let passes = w .leads .still-lent lent in
+            let gives = stored-loads st (now .lent) passes (w .leads .same-length) in
+            rw (o .answers, o .leaves, gives) (load-leads st (now .lent) passes (w .leads .same-length))
+        go false e =
+            let same : y ≡ now .lent =
+            o .leaves ∙ refused-load fa text (now .lent) (λ z. eqb-false (a .refused) 0 e (number ∙ z)) in
+            rw same (w .leads)
 
-  pub run-stands : (now : Standing) (calls : List Call) (end : Standing) → Run degreeLimit now calls end → Stands now
-      → Stands end
-  unfolding Run
-  run-stands now [] end r w = rw r w
-  run-stands now (call ∷ calls) end r w =
-      run-stands (after now call) calls end (r .2) (call-stands now call (r .0) (r .1) w)
+    pub run-stands : (now : Standing (m .Lent)) (calls : List (Call (m .Lent))) (end : Standing (m .Lent))
+        → Run f degreeLimit now calls end → Stands now → Stands end
+    unfolding Run
+    run-stands now [] end r w = rw r w
+    run-stands now (call ∷ calls) end r w =
+        run-stands (after now call) calls end (r .2) (call-stands now call (r .0) (r .1) w)

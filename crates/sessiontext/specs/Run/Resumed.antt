@@ -16,12 +16,14 @@ use Rattle.words.specs.Answers.{Outcome}
 use Rattle.text.specs.Text.{Text}
 use Rattle.pages.specs.declared.Slip.{Slip}
 use Rattle.pages.specs.Line.{Line}
-use Rattle.pages.specs.Page.{waiting, worth}
-use Rattle.sessiontext.specs.SessionText.{sessionText}
+use Rattle.pages.specs.Page.{worth}
+use Rattle.pages.specs.Mode.{Mode, waitingIn}
+use Rattle.sessiontext.specs.SessionText.{Form, sessionTextBy}
+use Rattle.sessiontext.specs.SessionText.Faithful.{Faithful}
 use Rattle.sessiontext.specs.SessionText.Storable.{sound-storable}
-use Rattle.sessiontext.specs.Reading.{slipIn, linesIn}
+use Rattle.sessiontext.specs.Reading.{slipBy, linesBy}
 use Rattle.sessiontext.specs.Reading.Back.{slip-back, lines-back}
-use Rattle.sessiontext.specs.Calls.{Loaded, saveInto, loadInto}
+use Rattle.sessiontext.specs.Calls.{Loaded, saveBy, loadBy}
 use Rattle.sessiontext.specs.Calls.Laws.{Taken, saved-text, loaded-text}
 use Rattle.sessiontext.specs.Run.{Call, Standing, begun, Run, Session}
 use Rattle.sessiontext.specs.Run.Leads.{Leads, stays}
@@ -32,57 +34,62 @@ small : degreeLimit < width
 small = omega arith
 
 -- ---- any text that is accepted
-module _ (text : Text) (other : List ℕ) (b : Loaded) (q : List ℕ) (loading : Outcome (loadInto degreeLimit text other) b q)
-    (accepted : b .refused ≡ 0) where
-  took : Taken text other (b .slip) q
+module _ {f : Form} (fa : Faithful f) (text : Text) (other : f .mode .Lent) (b : Loaded) (y : f .mode .Lent)
+    (loading : Outcome (loadBy f degreeLimit text other) b y) (accepted : b .refused ≡ 0) where
+  took : Taken f text other (b .slip) y
   took =
       let number = ap (λ (r : Loaded). r .refused) (loading .answers) in
-      rw (loading .answers, loading .leaves) (loaded-text text other (sym number ∙ accepted))
+      rw (loading .answers, loading .leaves) (loaded-text fa text other (sym number ∙ accepted))
 
-  pub foreign-run : (calls : List Call) (end : Standing) → Run degreeLimit (begun (b .slip) q) calls end
-      → Leads degreeLimit (b .slip) q (end .counted) (end .slip) (end .page)
+  pub foreign-run : (calls : List (Call (f .mode .Lent))) (end : Standing (f .mode .Lent))
+      → Run f degreeLimit (begun (b .slip) y) calls end
+      → Leads (f .mode) degreeLimit (b .slip) y (end .counted) (end .slip) (end .lent)
   foreign-run calls end run =
-      run-stands (b .slip) q (begun (b .slip) q) calls end run (record { leads = stays (took .fair); stored = tt })
+      run-stands fa (b .slip) y (took .passes) (begun (b .slip) y) calls end run (record { leads = stays (took .fair); stored = tt })
       .leads
 
 -- ---- a text that was saved in a session
-module _ (shape class : ℕ) (p : List ℕ) (before : List Call) (then : Standing)
-    (session : Session degreeLimit shape class p before then) (out left : Text) (a : CountAnswer)
-    (saving : Outcome (saveInto degreeLimit (then .slip) (then .page) out) a left) (saved : a .refused ≡ 0)
-    (other : List ℕ) (b : Loaded) (q : List ℕ)
-    (loading : Outcome (loadInto degreeLimit (take (a .count) left) other) b q) (accepted : b .refused ≡ 0)
-    (calls : List Call) (end : Standing) (run : Run degreeLimit (begun (b .slip) q) calls end) where
+module _ {f : Form} (fa : Faithful f) (shape class : ℕ) (x : f .mode .Lent) (before : List (Call (f .mode .Lent)))
+    (then : Standing (f .mode .Lent)) (session : Session f degreeLimit shape class x before then) (out left : Text)
+    (a : CountAnswer) (saving : Outcome (saveBy f degreeLimit (then .slip) (then .lent) out) a left)
+    (saved : a .refused ≡ 0) (other : f .mode .Lent) (b : Loaded) (y : f .mode .Lent)
+    (loading : Outcome (loadBy f degreeLimit (take (a .count) left) other) b y) (accepted : b .refused ≡ 0)
+    (calls : List (Call (f .mode .Lent))) (end : Standing (f .mode .Lent))
+    (run : Run f degreeLimit (begun (b .slip) y) calls end) where
+  abbrev m : Mode
+  m = f .mode
+
   abbrev text : Text
   text = take (a .count) left
 
-  at-save : Demand3 shape class p before then
-  at-save = demand-3 shape class p before then session
+  at-save : Demand3 fa shape class x before then
+  at-save = demand-3 fa shape class x before then session
 
   pub record Resumed : Type 0 where
     pub slip : b .slip ≡ then .slip
-    pub lines : waiting (b .slip) q ≡ waiting (then .slip) (then .page)
-    pub conserved : worth (end .slip) (waiting (end .slip) (end .page)) ≡ shapeOf shape on classOf class
+    pub lines : waitingIn m (b .slip) y ≡ waitingIn m (then .slip) (then .lent)
+    pub conserved : worth (end .slip) (waitingIn m (end .slip) (end .lent)) ≡ shapeOf shape on classOf class
     pub counted : end .slip .steps ≡ pos (then .counted) +ℤ pos (end .counted)
 
   pub resumed : Resumed
   resumed =
-      let refused : saveInto degreeLimit (then .slip) (then .page) out .0 .refused ≡ 0 =
+      let refused : saveBy f degreeLimit (then .slip) (then .lent) out .0 .refused ≡ 0 =
       ap (λ (c : CountAnswer). c .refused) (sym (saving .answers)) ∙ saved in
-      let x = saved-text (then .slip) (then .page) out refused in
-      let its : text ≡ sessionText (then .slip) (waiting (then .slip) (then .page)) =
-      rw (saving .answers, saving .leaves) (x .text) in
-      let t = took text other b q loading accepted in
+      let was = saved-text fa (then .slip) (then .lent) out refused in
+      let its : text ≡ sessionTextBy f (then .slip) (waitingIn m (then .slip) (then .lent)) =
+      rw (saving .answers, saving .leaves) (was .text) in
+      let t = took fa text other b y loading accepted in
       let same = t .same ∙ its in
-      let mine = sound-storable (t .fair) (omega (arith, t .long, t .short)) in
-      let first = sound-storable (x .fair) (omega (arith, x .short)) in
+      let mine = sound-storable fa (t .fair) (t .passes) in
+      let first = sound-storable fa (was .fair) (was .lent) in
       let slip : b .slip ≡ then .slip =
-      sym (slip-back degreeLimit small mine) ∙ ap slipIn same ∙ slip-back degreeLimit small first in
-      let lines : waiting (b .slip) q ≡ waiting (then .slip) (then .page) =
-      sym (lines-back degreeLimit small mine) ∙ ap linesIn same ∙ lines-back degreeLimit small first in
-      let leads = foreign-run text other b q loading accepted calls end run in
-      let as-saved : worth (b .slip) (waiting (b .slip) q) ≡ worth (then .slip) (waiting (then .slip) (then .page)) =
+      sym (slip-back fa degreeLimit small mine) ∙ ap (slipBy f) same ∙ slip-back fa degreeLimit small first in
+      let lines : waitingIn m (b .slip) y ≡ waitingIn m (then .slip) (then .lent) =
+      sym (lines-back fa degreeLimit small mine) ∙ ap (linesBy f) same ∙ lines-back fa degreeLimit small first in
+      let leads = foreign-run fa text other b y loading accepted calls end run in
+      let as-saved : worth (b .slip) (waitingIn m (b .slip) y) ≡ worth (then .slip) (waitingIn m (then .slip) (then .lent)) =
       ap (λ (ls : List Line). worth (b .slip) ls) lines
-      ∙ ap (λ (u : Slip). worth u (waiting (then .slip) (then .page))) slip in
+      ∙ ap (λ (u : Slip). worth u (waitingIn m (then .slip) (then .lent))) slip in
       record {
         slip = slip;
         lines = lines;

@@ -1,14 +1,16 @@
 -- How long the text of a session can be: a list of parts takes at most two bytes for each cell, the last comma less, so
 -- 31.
---   lineRoom   how many bytes are enough for the line of text for a waiting line; headRoom, for the first six lines
+--   lineRoom         how many bytes are enough for the line of text for a waiting line; headRoom, for the six lines
+--                    before them
+--   lineRoomBy fa    the same by any form
+--   weightedRoom     the same by the gathered form; frontedRoom, for its seven lines before them
 use mathlib.Core.Path.{_≡_}
 use Prim.Native.Nat.{_≤_, _<_}
 use native.Mathlib.Omega.{arith}
 use native.Mathlib.Decide.{decLe}
 use native.Mathlib.Nat.{lt-of-not-le}
 use lib.ListN.{length-append}
-use lib.Signed.{nonNeg}
-use Rattle.theory.specs.Basics.{Bool, true, false, not, List, [], _∷_, _++_, map, length, ℕ, _+_, _-_, _*_, _^_}
+use Rattle.theory.specs.Basics.{Bool, true, List, [], _∷_, _++_, map, length, ℕ, _+_, _-_, _*_, _^_}
 use Rattle.theory.specs.Basics.{natAbs, joined}
 use Rattle.theory.specs.Basics.Laws.{each-same, joined-length}
 use Rattle.theory.specs.Partition.{Parts, isPartition, degree}
@@ -21,17 +23,27 @@ use Rattle.text.specs.Text.{Text, ascii, decimal, integer, commas, listText, te
 use Rattle.text.specs.Text.Decimals.{decimal-most, decimal-length, integer-length}
 use Rattle.pages.specs.declared.Slip.{Slip}
 use Rattle.pages.specs.Line.{Line}
-use Rattle.sessiontext.specs.SessionText.{signText, valueText, waitingText, lineText, sessionText}
-use Rattle.sessiontext.specs.SessionText.Laws.{askedText, reachedText, session-parts}
-use Rattle.sessiontext.specs.SessionText.Storable.{StorableLine, Storable}
+use Rattle.sessiontext.specs.SessionText.{Form, gatheredForm, signText, valueText, weightedText, waitingText}
+use Rattle.sessiontext.specs.SessionText.{lineTextBy, sessionTextBy, lineText, sessionText}
+use Rattle.sessiontext.specs.SessionText.Laws.{frontText, askedText, reachedText, session-parts}
+use Rattle.sessiontext.specs.SessionText.Faithful.{Faithful}
+use Rattle.sessiontext.specs.SessionText.Faithful.Plain.{sign-length, plain-faithful}
+use Rattle.sessiontext.specs.SessionText.Faithful.Gathered.{held-below, gathered-faithful}
+use Rattle.sessiontext.specs.SessionText.Storable.{StorableLineBy, StorableBy, StorableLine, Storable}
 use Rattle.sessiontext.specs.Reading.Forms.{InLimit}
-use Rattle.sessiontext.specs.Reading.Fields.{shape-in, class-in, held-below}
+use Rattle.sessiontext.specs.Reading.Fields.{shape-in, class-in}
 
 abbrev pub lineRoom : ℕ
 lineRoom = 72
 
 abbrev pub headRoom : ℕ
 headRoom = 256
+
+abbrev pub weightedRoom : ℕ
+weightedRoom = 91
+
+abbrev pub frontedRoom : ℕ
+frontedRoom = 270
 
 -- ---- lines of text
 pub line-length : (name t : Text) → length (textLine name t) ≡ length name + length t + 1
@@ -66,82 +78,112 @@ list-length (p ∷ ps) e h =
 pub list-short : {ps : Parts} → InLimit degreeLimit ps → length (listText ps) ≤ 31
 list-short {ps} i = omega (arith, list-length ps (i .partition) (omega (arith, i .small)), i .small)
 
-sign-length : (minus : Bool) → length (signText minus) ≡ 1
-sign-length true = omega arith
-sign-length false = omega arith
+module _ (weight : Text) (shape class : Parts) where
+  pub weighted-length : length (weightedText weight shape class)
+      ≡ 8 + length weight + length (listText shape) + length (listText class)
+  unfolding weightedText
+  weighted-length =
+      let first : Text = weight ++ ascii ";" in
+      let second : Text = first ++ listText shape ++ ascii ";" in
+      omega (
+        arith,
+        line-length (ascii "line=") (valueText weight shape class),
+        length-append second (listText class),
+        length-append (first ++ listText shape) (ascii ";"),
+        length-append first (listText shape),
+        length-append weight (ascii ";"),
+      )
+
+  pub weighted-short : (room : ℕ) → length weight ≤ room → InLimit degreeLimit shape → InLimit degreeLimit class
+      → length (weightedText weight shape class) ≤ room + 71
+  weighted-short room h i j = omega (arith, weighted-length, list-short i, list-short j)
 
 pub waiting-length : (minus : Bool) (shape class : Parts)
     → length (waitingText minus shape class) ≡ 9 + length (listText shape) + length (listText class)
-unfolding waitingText
-waiting-length minus shape class =
-    let first : Text = signText minus ++ ascii ";" in
-    let second : Text = first ++ listText shape ++ ascii ";" in
-    omega (
-      arith,
-      line-length (ascii "line=") (valueText minus shape class),
-      length-append second (listText class),
-      length-append (first ++ listText shape) (ascii ";"),
-      length-append first (listText shape),
-      length-append (signText minus) (ascii ";"),
-      sign-length minus,
-    )
+waiting-length minus shape class = omega (arith, weighted-length (signText minus) shape class, sign-length minus)
 
 pub waiting-short : (minus : Bool) {shape class : Parts} → InLimit degreeLimit shape → InLimit degreeLimit class
     → length (waitingText minus shape class) ≤ lineRoom
-waiting-short minus {shape} {class} i j = omega (arith, waiting-length minus shape class, list-short i, list-short j)
+waiting-short minus {shape} {class} i j =
+    weighted-short (signText minus) shape class 1 (omega (arith, sign-length minus)) i j
 
 -- ---- a session
 small : degreeLimit < width
 small = omega arith
 
-pub line-short : (l : Line) → StorableLine degreeLimit l → length (lineText l) ≤ lineRoom
-line-short l x =
-    waiting-short (not (nonNeg (l .weight))) (shape-in degreeLimit small (x .shape))
-    (class-in degreeLimit small (x .class))
+module _ {f : Form} (fa : Faithful f) where
+  abbrev pub lineRoomBy : ℕ
+  lineRoomBy = fa .weightRoom + 71
 
-module _ {slip : Slip} {lines : List Line} (s : Storable degreeLimit slip lines) where
-  asked-short : length (askedText slip) ≤ 160
-  asked-short =
-      let a : Text = field "degree=" (decimal (degree (shapeOf (slip .shape)))) in
-      let b : Text = field "shape=" (listText (shapeOf (slip .shape))) in
-      let c : Text = field "class=" (listText (classOf (slip .class))) in
-      omega (
-        arith,
-        length-append (a ++ b) c,
-        length-append a b,
-        number-length (ascii "degree=") (degree (shapeOf (slip .shape))),
-        line-length (ascii "shape=") (listText (shapeOf (slip .shape))),
-        list-short (shape-in degreeLimit small (s .shape)),
-        line-length (ascii "class=") (listText (classOf (slip .class))),
-        list-short (class-in degreeLimit small (s .class)),
-      )
+  pub line-short : (l : Line) → StorableLineBy fa degreeLimit l → length (lineTextBy f l) ≤ lineRoomBy
+  line-short l x =
+      weighted-short (f .weightText (l .weight)) (shapeOf (l .shape)) (classOf (l .class)) (fa .weightRoom)
+      (fa .weight-short (l .weight) (x .kept)) (shape-in degreeLimit small (x .shape))
+      (class-in degreeLimit small (x .class))
 
-  reached-short : (count : ℕ) → length (reachedText slip count) ≤ 96
-  reached-short count =
-      let d : Text = field "steps=" (decimal (natAbs (slip .steps))) in
-      let e : Text = field "settled=" (integer (slip .settled)) in
-      let f : Text = field "lines=" (decimal count) in
-      omega (
-        arith,
-        length-append (d ++ e) f,
-        length-append d e,
-        number-length (ascii "steps=") (natAbs (slip .steps)),
-        line-length (ascii "settled=") (integer (slip .settled)),
-        integer-length (slip .settled) 19 (held-below (slip .settled) (s .settled)),
-        number-length (ascii "lines=") count,
-      )
+  module _ {slip : Slip} {lines : List Line} (s : StorableBy fa degreeLimit slip lines) where
+    asked-short : length (askedText slip) ≤ 160
+    asked-short =
+        let a : Text = field "degree=" (decimal (degree (shapeOf (slip .shape)))) in
+        let b : Text = field "shape=" (listText (shapeOf (slip .shape))) in
+        let c : Text = field "class=" (listText (classOf (slip .class))) in
+        omega (
+          arith,
+          length-append (a ++ b) c,
+          length-append a b,
+          number-length (ascii "degree=") (degree (shapeOf (slip .shape))),
+          line-length (ascii "shape=") (listText (shapeOf (slip .shape))),
+          list-short (shape-in degreeLimit small (s .shape)),
+          line-length (ascii "class=") (listText (classOf (slip .class))),
+          list-short (class-in degreeLimit small (s .class)),
+        )
 
-  pub session-short : length (sessionText slip lines) ≤ headRoom + length lines * lineRoom
-  session-short =
-      let g : Text = joined lineText lines in
-      let each = each-same (StorableLine degreeLimit) (λ l. length (lineText l) ≤ lineRoom) lines line-short (s .each)
-      in
-      rw (session-parts slip lines)
-      (omega (
-        arith,
-        length-append (askedText slip ++ reachedText slip (length lines)) g,
-        length-append (askedText slip) (reachedText slip (length lines)),
-        asked-short,
-        reached-short (length lines),
-        joined-length lineText lineRoom lines each,
-      ))
+    reached-short : (count : ℕ) → length (reachedText slip count) ≤ 96
+    reached-short count =
+        let d : Text = field "steps=" (decimal (natAbs (slip .steps))) in
+        let e : Text = field "settled=" (integer (slip .settled)) in
+        let g : Text = field "lines=" (decimal count) in
+        omega (
+          arith,
+          length-append (d ++ e) g,
+          length-append d e,
+          number-length (ascii "steps=") (natAbs (slip .steps)),
+          line-length (ascii "settled=") (integer (slip .settled)),
+          integer-length (slip .settled) 19 (held-below (slip .settled) (s .settled)),
+          number-length (ascii "lines=") count,
+        )
+
+    pub session-short : length (sessionTextBy f slip lines)
+        ≤ length (frontText f) + (headRoom + length lines * lineRoomBy)
+    session-short =
+        let rest : Text = joined (lineTextBy f) lines in
+        let front : Text = frontText f in
+        let head : Text = askedText slip ++ reachedText slip (length lines) in
+        let each =
+        each-same (StorableLineBy fa degreeLimit) (λ l. length (lineTextBy f l) ≤ lineRoomBy) lines line-short (s .each) in
+        rw (session-parts f slip lines)
+        (omega (
+          arith,
+          length-append front (head ++ rest),
+          length-append head rest,
+          length-append (askedText slip) (reachedText slip (length lines)),
+          asked-short,
+          reached-short (length lines),
+          joined-length (lineTextBy f) lineRoomBy lines each,
+        ))
+
+-- ---- by the plain form
+pub plain-line-short : (l : Line) → StorableLine degreeLimit l → length (lineText l) ≤ lineRoom
+unfolding plain-faithful
+plain-line-short l x = line-short plain-faithful l x
+
+pub plain-session-short : {slip : Slip} {lines : List Line} → Storable degreeLimit slip lines
+    → length (sessionText slip lines) ≤ headRoom + length lines * lineRoom
+unfolding plain-faithful
+plain-session-short s = omega (arith, session-short plain-faithful s)
+
+-- ---- by the gathered form
+pub gathered-session-short : {slip : Slip} {lines : List Line} → StorableBy gathered-faithful degreeLimit slip lines
+    → length (sessionTextBy gatheredForm slip lines) ≤ frontedRoom + length lines * weightedRoom
+unfolding gathered-faithful
+gathered-session-short s = omega (arith, session-short gathered-faithful s)

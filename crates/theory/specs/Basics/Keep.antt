@@ -7,7 +7,7 @@ use native.Mathlib.Omega.{arith}
 use lib.IntN.{+ℤ-assoc}
 use Rattle.theory.specs.Basics.{Bool, true, false, not, cond, List, [], _∷_, _++_, map, length, getD}
 use Rattle.theory.specs.Basics.{ℕ, zero, suc, _+_, ℤ, _+ℤ_, keep, every, total, sum, upFrom}
-use Rattle.theory.specs.Basics.Laws.{both, Each}
+use Rattle.theory.specs.Basics.Laws.{both, Each, each-same, each-member}
 use Rattle.theory.specs.Basics.Integers.{swap-front}
 
 -- two tests are the same if each passes where the other does
@@ -48,6 +48,28 @@ module _ {A : Type 0} where
         go true t r = ((e .0, t), r)
         go false t r = r
 
+    pub each-kept : (P : A → Type 0) (xs : List A) → Each P xs → Each P (keep test xs)
+    each-kept P xs e = each-same _ P (keep test xs) (λ x k. k .0) (each-keep P xs e)
+
+    pub every-kept : (xs : List A) → every test (keep test xs) ≡ true
+    every-kept xs =
+        let each = each-keep (λ x. Unit {0}) xs (each-member _ xs (λ x m. tt)) in
+        each-every (keep test xs) (each-same _ _ (keep test xs) (λ x k. k .1) each)
+
+    pub keep-all : (xs : List A) → Each (λ x. test x ≡ true) xs → keep test xs ≡ xs
+    keep-all [] e = refl
+    keep-all (x ∷ xs) e = rw (e .0, keep-all xs (e .1))
+
+    pub keep-append : (xs ys : List A) → keep test (xs ++ ys) ≡ keep test xs ++ keep test ys
+    keep-append [] ys = refl
+    keep-append (x ∷ xs) ys = rw (keep-append xs ys) (go (test x))
+      where
+        go : (b : Bool)
+            → cond b (x ∷ (keep test xs ++ keep test ys)) (keep test xs ++ keep test ys)
+            ≡ cond b (x ∷ keep test xs) (keep test xs) ++ keep test ys
+        go true = refl
+        go false = refl
+
     pub length-keep : (xs : List A) → length (keep test xs) ≤ length xs
     length-keep [] = omega arith
     length-keep (x ∷ xs) = go (test x) (length-keep xs)
@@ -76,6 +98,11 @@ module _ {A : Type 0} where
             ≡ total (map f (cond b (x ∷ ys) ys)) + total (map f (cond (not b) (x ∷ zs) zs))
         go true ys zs = omega arith
         go false ys zs = omega arith
+
+  pub keep-same : (P : A → Type 0) (test other : A → Bool) (xs : List A) → ((x : A) → P x → test x ≡ other x)
+      → Each P xs → keep test xs ≡ keep other xs
+  keep-same P test other [] e h = refl
+  keep-same P test other (x ∷ xs) e h = rw (e x (h .0), keep-same P test other xs e (h .1))
 
   -- ---- totals
   module _ (f : A → ℕ) where

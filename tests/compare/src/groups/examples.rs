@@ -55,7 +55,7 @@ fn words(group: &mut Group) {
 fn sessions(group: &mut Group) {
     let mut play = |name: &str, shape: u32, class: u32, strikes: &[(u64, u64, i64)]| {
         let opened = calls::open(shape, class, &[7, 7]);
-        let mut slip = Slip { shape, class, settled: 0, lines: 1, steps: 0 };
+        let mut slip = Slip { shape, class, lines: 1, ..Slip::default() };
         let mut page = vec![u64::from(shape) * (1 << 32) + u64::from(class), 0];
         group.same((opened.answer, opened.run), ((0, slip), page.clone()), || name.to_string());
         for &(cycle, line, settled) in strikes {

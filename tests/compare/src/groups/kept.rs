@@ -47,7 +47,7 @@ impl Desk<'_> {
         let line = |shape: u32| sign + (u64::from(shape) << 32) + u64::from(class);
         let state = |shape: u32, page: &[u64]| -> State {
             let lines = page.iter().filter(|&&word| word != 0).count() as u64;
-            (Slip { shape, class, settled: 0, lines, steps: 0 }, page.to_vec())
+            (Slip { shape, class, lines, ..Slip::default() }, page.to_vec())
         };
         let Some(&cycle) = parts.first() else {
             let named = Named { line: 0, cycle: 1 };

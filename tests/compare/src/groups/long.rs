@@ -45,7 +45,7 @@ fn page_of(characters: &Characters, random: &mut Random, count: usize) -> State 
     let lines: Vec<Line> = (0..count).map(&mut line).collect();
     let words = (count + random.below(4)).min(PAGE_LIMIT);
     let (shape, class) = (pack_shape(&[16]), pack_class(&[16]));
-    (Slip { shape, class, settled: 0, lines: count as u64, steps: 0 }, written(&lines, words).unwrap())
+    (Slip { shape, class, lines: count as u64, ..Slip::default() }, written(&lines, words).unwrap())
 }
 
 /// What stands in the place of a line.

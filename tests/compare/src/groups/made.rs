@@ -3,7 +3,7 @@
 use super::draws::{random_ones, random_word};
 use crate::model::characters::Characters;
 use crate::model::partitions::{degree, factorial};
-use crate::model::sessions::{most_steps, sound, written, Line, Slip, PAGE_LIMIT};
+use crate::model::sessions::{most_steps, sound, written, Line, Slip, PAGE_LIMIT, PLAIN};
 use crate::model::words::{pack_class, pack_shape, read_shape};
 use crate::random::Random;
 
@@ -32,7 +32,7 @@ pub fn random_line(characters: &Characters, random: &mut Random, degree: usize) 
 }
 
 /// A number from 0 to `most`, in one case of four `most` itself.
-fn up_to(random: &mut Random, most: i128) -> i64 {
+pub fn up_to(random: &mut Random, most: i128) -> i64 {
     if random.once_in(4) {
         most as i64
     } else {
@@ -68,14 +68,19 @@ pub fn made_up(characters: &Characters, random: &mut Random) -> (Slip, Vec<u64>)
     let page = written(&lines, lines.len() + free).unwrap();
     let asked = random_line(characters, random, n);
     let (shape, class) = (pack_shape(&asked.shape), pack_class(&asked.class));
-    (Slip { shape, class, settled, lines: lines.len() as u64, steps: up_to(random, room.steps) }, page)
+    let (lines, steps) = (lines.len() as u64, up_to(random, room.steps));
+    (Slip { shape, class, settled, lines, steps, mode: PLAIN }, page)
 }
+
+/// Modes that a plain slip does not have.
+pub const WRONG_MODES: [u32; 6] = [1, 2, 3, 256, 1 << 31, u32::MAX];
 
 /// A sound state with something changed in its slip or on its page. Now and then it is sound all the same.
 pub fn damaged(characters: &Characters, random: &mut Random, state: &(Slip, Vec<u64>)) -> (Slip, Vec<u64>) {
     let (mut slip, mut page) = state.clone();
     let any = random_word(random);
-    match random.below(8) {
+    match random.below(9) {
+        8 => slip.mode = *random.pick(&WRONG_MODES),
         0 => slip.lines = *random.pick(&[slip.lines + 1, slip.lines.wrapping_sub(1), page.len() as u64, u64::MAX]),
         1 => slip.steps = damaged_steps(random, state),
         2 => slip.settled = damaged_settled(random, state),

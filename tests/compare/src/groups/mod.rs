@@ -5,6 +5,7 @@ mod draws;
 pub mod ends;
 pub mod examples;
 pub mod formulas;
+pub mod gathered;
 pub mod handmade;
 pub mod in_front;
 pub mod kept;

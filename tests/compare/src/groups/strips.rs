@@ -84,7 +84,7 @@ pub fn run(characters: &Characters, group: &mut Group) {
 
 /// The slip of so many lines of degree 16 at most.
 fn slip(lines: usize) -> Slip {
-    Slip { shape: pack_shape(&[16]), class: pack_class(&[16]), settled: 0, lines: lines as u64, steps: 0 }
+    Slip { shape: pack_shape(&[16]), class: pack_class(&[16]), lines: lines as u64, ..Slip::default() }
 }
 
 impl Strips<'_> {

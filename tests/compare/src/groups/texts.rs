@@ -6,7 +6,7 @@ use super::{valued, Tally};
 use crate::calls;
 use crate::lent::leaves;
 use crate::model::characters::Characters;
-use crate::model::sessions::Slip;
+use crate::model::sessions::{Slip, PLAIN};
 use crate::model::texts;
 use crate::model::words::{pack_class, pack_shape};
 use crate::random::Random;
@@ -14,7 +14,7 @@ use crate::report::Group;
 
 /// A text shorter than this has each byte changed to every other one, the longer ones to those that tell most.
 const SHORT: usize = 110;
-const TELLING: &[u8] = b"0123456789,;=+-\n\r \0lsd\xFF";
+pub const TELLING: &[u8] = b"0123456789,;=+-\n\r \0lsd\xFF";
 
 /// How many drawn sessions have their texts changed.
 const DRAWN: usize = 24;
@@ -71,7 +71,7 @@ fn compare_lengths(group: &mut Group, tally: &mut Tally, random: &mut Random, sl
 }
 
 /// The texts that differ from this one in one place.
-fn near<'a>(text: &'a [u8], bytes: &'a [u8]) -> impl Iterator<Item = Vec<u8>> + 'a {
+pub fn near<'a>(text: &'a [u8], bytes: &'a [u8]) -> impl Iterator<Item = Vec<u8>> + 'a {
     let at = |at: usize| (&text[..at], text[at], &text[at + 1..]);
     let put = |front: &[u8], byte: &[u8], back: &[u8]| [front, byte, back].concat();
     let changed = move |k| {
@@ -88,7 +88,7 @@ fn near<'a>(text: &'a [u8], bytes: &'a [u8]) -> impl Iterator<Item = Vec<u8>> + 
 }
 
 /// The texts that come of exchanging two lines, of leaving one out, and of having one twice.
-fn near_lines(text: &[u8]) -> Vec<Vec<u8>> {
+pub fn near_lines(text: &[u8]) -> Vec<Vec<u8>> {
     let lines: Vec<&[u8]> = text.split_inclusive(|&byte| byte == b'\n').collect();
     let mut all = vec![];
     for at in 0..lines.len() {
@@ -136,5 +136,5 @@ pub fn run(characters: &Characters, group: &mut Group) {
 
 /// The slip of a session by parts.
 fn session(rows: &[u8], parts: &[u8], settled: i64, lines: u64, steps: i64) -> Slip {
-    Slip { shape: pack_shape(rows), class: pack_class(parts), settled, lines, steps }
+    Slip { shape: pack_shape(rows), class: pack_class(parts), settled, lines, steps, mode: PLAIN }
 }

@@ -1,13 +1,15 @@
-//! Document 01, and P1 to P3, P5 and P6 of document 02, once more, by other means than the library's, and with Vec,
+//! Document 01, and P1 to P3 and P5 to P7 of document 02, once more, by other means than the library's, and with Vec,
 //! String and HashMap at will:
 //! - words are read and written as strings of digits; what has ones in front is read to its rows, and these are packed;
 //! - characters come from permutation characters, made orthogonal: no hook, no sign rule and no beta-number;
 //! - what a strike leaves comes from the rules of 1954 on lists of rows;
-//! - a session is a Vec of lines, a strip is read as lines, and a text by splitting.
+//! - a session is a Vec of lines, a strip is read as lines, and a text by splitting;
+//! - like lines are gathered by a map from shape and class to the sum of what they bring.
 //!
 //! A call that is refused is an `Err` with the refusal number.
 
 pub mod characters;
+pub mod gathered;
 pub mod partitions;
 pub mod sessions;
 pub mod texts;

@@ -1,4 +1,4 @@
-//! Sessions: a slip, and a Vec of lines that is written out as a page.
+//! Plain sessions: a slip, and a Vec of lines that is written out as a page.
 
 use super::characters::Characters;
 use super::partitions::{degree, factorial, strikes, without};
@@ -8,6 +8,10 @@ use super::{Answer, Parts, DEGREE_LIMIT};
 /// The longest page.
 pub const PAGE_LIMIT: usize = 4096;
 
+/// The modes that a slip says.
+pub const PLAIN: u32 = 0;
+pub const GATHERED: u32 = 1;
+
 #[derive(Clone, Copy, Debug, Default, PartialEq, Eq)]
 pub struct Slip {
     pub shape: u32,
@@ -15,9 +19,11 @@ pub struct Slip {
     pub settled: i64,
     pub lines: u64,
     pub steps: i64,
+    pub mode: u32,
 }
 
-/// A waiting line: its sign, 1 or -1, its rows and its cycles.
+/// A waiting line: its sign, 1 or -1, or the coefficient that stands for it in a gathered session; its rows and its
+/// cycles.
 #[derive(Clone, Debug, PartialEq, Eq)]
 pub struct Line {
     pub sign: i64,
@@ -32,7 +38,7 @@ impl Line {
     }
 
     /// The line of a word: a good shape word and a good class word of one degree, 1 to n.
-    fn read(word: u64, n: u32) -> Option<Line> {
+    pub fn read(word: u64, n: u32) -> Option<Line> {
         let shape = read_good_shape((word >> 32) as u32 % (1 << 31)).ok()?;
         let class = read_class(word as u32).ok()?;
         let degrees = [degree(&shape), degree(&class)];
@@ -74,7 +80,7 @@ pub fn open(shape: u32, class: u32, words: usize) -> Answer<(Slip, Vec<u64>)> {
     let lines = if empty { vec![] } else { vec![Line { sign: 1, shape: rows, class: cycles }] };
     let page = written(&lines, words)?;
     let settled = i64::from(empty);
-    Ok((Slip { shape, class, settled, lines: lines.len() as u64, steps: 0 }, page))
+    Ok((Slip { shape, class, settled, lines: lines.len() as u64, steps: 0, mode: PLAIN }, page))
 }
 
 /// The lines of a sound slip and page. Refuses 6, 7.
@@ -86,6 +92,9 @@ pub fn sound(slip: &Slip, page: &[u64]) -> Answer<Vec<Line>> {
 }
 
 fn sound_lines(slip: &Slip, page: &[u64]) -> Option<Vec<Line>> {
+    if slip.mode != PLAIN {
+        return None;
+    }
     let n = degree(&read_good_shape(slip.shape).ok()?);
     read_pair(slip.shape, slip.class).ok()?;
     let count = usize::try_from(slip.lines).ok().filter(|&count| count <= page.len())?;

@@ -2,26 +2,32 @@
 use native.Mathlib.Omega.{arith}
 use Prim.Native.Nat.{_-_}
 use borrow.Author.Needs.{needs}
+use lib.ListN.{List·getD-map, length-map}
 use mir.Syntax.{w64}
 use mir.Val.{toZ}
-use Rattle.theory.specs.Basics.{length}
+use Rattle.theory.specs.Basics.{map, length, getD}
 use Rattle.theory.specs.Bounds.Laws.{largestLimit}
+use Rattle.pages.specs.Page.{lineOf}
 use Rattle.characters.proofs.Sums.{Summing, NextLine, sum-start, sum-next, sum-end}
 use Rattle.characters.proofs.lines.sum.Statement.{statement}
 use Rattle.characters.proofs.lines.sum.Tie as tie
 
 abbrev Inv-loop : tie.InvT-loop
-Inv-loop lines sum₀ i₀ sum i = Summing largestLimit lines i (toZ w64 sum)
+Inv-loop lines sum₀ i₀ sum i = Summing largestLimit (map lineOf lines) i (toZ w64 sum)
 
 abbrev μ-loop : tie.MeasureT-loop
 μ-loop lines sum₀ i₀ sum i = length lines - i
 
 next : (c : tie.In-loop Inv-loop μ-loop)
-    → NextLine largestLimit (c .before .before .before .args .lines .now) (c .before .loop .i)
-    (toZ w64 (c .before .loop .sum))
+    → let words = c .before .before .before .args .lines .now in
+    let i = c .before .loop .i in
+    NextLine largestLimit (map lineOf words) i (toZ w64 (c .before .loop .sum)) (lineOf (getD words i 0))
 next c =
     let start = c .before .before .before in
-    sum-next _ _ (start .pre .0) (start .pre .1) _ _ (c .before .loop .inv) (c .loop-test .taken)
+    let words = start .args .lines .now in
+    let i = c .before .loop .i in
+    sum-next _ _ (start .pre .0) (start .pre .1) _ _ (c .before .loop .inv)
+    (omega (arith, length-map words lineOf, c .loop-test .taken)) _ (List·getD-map lineOf words i 0)
 
 loop-holds : tie.Need-loop-holds Inv-loop μ-loop
 loop-holds c = sum-start _ _ (c .before .pre .0) (c .before .pre .1)
@@ -47,7 +53,8 @@ loop-again c = rw (c .add-line .ensures) (next (c .before .before) .again)
 returns : tie.Need-returns Inv-loop μ-loop
 returns c =
     let start = c .before .before .before in
-    sum-end _ _ (start .pre .0) (start .pre .1) _ _ (c .before .loop .inv) (c .loop-test .left)
+    sum-end _ _ (start .pre .0) (start .pre .1) _ _ (c .before .loop .inv)
+    (omega (arith, length-map (start .args .lines .now) lineOf, c .loop-test .left))
 
 pub sum-spec : {M : Type 1} → statement M
 sum-spec =

@@ -13,9 +13,10 @@ use Rattle.theory.specs.Bounds.Laws.{largestLimit}
 use Rattle.pages.specs.Line.{signedCharacter}
 use Rattle.pages.specs.Page.{lineOf, waiting, lineAt}
 use Rattle.pages.specs.Sound.Laws.{SoundLine, line-wider}
+use Rattle.pages.specs.Lawful.Plain.{plain-lawful}
 use Rattle.pages.proofs.Signed.{carried}
 use Rattle.pages.proofs.SoundPages.{line-word, sound-line-at}
-use Rattle.characters.specs.Watch.{whole, quotient, ratio, shown}
+use Rattle.characters.specs.Watch.{whole, quotient, ratio, shownIn}
 use Rattle.characters.proofs.Watches.{watch-refused, Watching, watching, shows-by, waiting-sound, waiting-fits}
 use Rattle.characters.proofs.Watches.{waiting-carried, last-kind, alone-fits, alone-carried}
 use Rattle.characters.proofs.sessions.watch.Statement.{statement}
@@ -34,14 +35,14 @@ watch-refusal-requires c κs = search needs
 returns : tie.Need-returns
 returns c =
     let a = c .before .before .before .args in
-    watch-refused degreeLimit (a .slip) (a .page .now) (a .kind) (a .line) _ (c .before .watch-refusal .ensures)
-    (c .if1 .taken)
+    watch-refused plain-lawful degreeLimit (a .slip) (a .page .now) (a .kind) (a .line) _
+    (c .before .watch-refusal .ensures) (c .if1 .taken)
 
 passed : (c : tie.Else1) → let a = begin c .args in
-    Watching degreeLimit (a .slip) (a .page .now) (a .kind) (a .line)
+    Watching plain-lawful degreeLimit (a .slip) (a .page .now) (a .kind) (a .line)
 passed c =
     let a = begin c .args in
-    watching degreeLimit (a .slip) (a .page .now) (a .kind) (a .line) _ (c .before .watch-refusal .ensures)
+    watching plain-lawful degreeLimit (a .slip) (a .page .now) (a .kind) (a .line) _ (c .before .watch-refusal .ensures)
     (c .if1 .left)
 
 line-sound : (c : tie.Else1) → begin c .args .kind ≤ 2 → let a = begin c .args in
@@ -92,49 +93,49 @@ sum-requires : tie.Need-sum-requires
 sum-requires c κs =
     let a = begin (c .before .before) .args in
     let s = passed (c .before .before) .soundness in
-    (waiting-sound _ small (a .slip) (a .page .now) s, waiting-fits _ small (a .slip) (a .page .now) s)
+    (waiting-sound _ small (a .slip) _ (s .lines), waiting-fits _ small (a .slip) _ (s .lines))
 
 returns-2 : tie.Need-returns-2
-unfolding shown
+unfolding shownIn
 returns-2 c =
     let keys = c .before .before in
     let s = line-sound (keys .before) (omega arith) in
     let line = ap signedCharacter (chosen (keys .before) (omega arith)) in
     let is = ap carried (c .add-line .ensures) ∙ alone-carried _ small _ s ∙ line in
-    shows-by _ _ _ _ _ (passed (keys .before)) 1 (omega arith) _ (ap whole is)
+    shows-by plain-lawful _ _ _ _ _ (passed (keys .before)) 1 (omega arith) _ (ap whole is)
 
 returns-3 : tie.Need-returns-3
-unfolding shown
+unfolding shownIn
 returns-3 c =
     let keys = c .before .before in
-    shows-by _ _ _ _ _ (passed (keys .before)) 2 (omega arith) _
+    shows-by plain-lawful _ _ _ _ _ (passed (keys .before)) 2 (omega arith) _
     (ap quotient (c .ratio .ensures ∙ ap ratio (chosen (keys .before) (omega arith))))
 
 returns-4 : tie.Need-returns-4
-unfolding shown
+unfolding shownIn
 returns-4 c =
     let keys = c .before in
     let settled : SFits w64 (begin (keys .before) .args .slip .settled) = search needs in
-    shows-by _ _ _ _ _ (passed (keys .before)) 3 (omega arith) _ (ap whole (toZ-ofZ settled))
+    shows-by plain-lawful _ _ _ _ _ (passed (keys .before)) 3 (omega arith) _ (ap whole (toZ-ofZ settled))
 
 returns-5 : tie.Need-returns-5
-unfolding shown
+unfolding shownIn
 returns-5 c =
     let keys = c .before .before in
     let a = begin (keys .before) .args in
     let w = passed (keys .before) in
-    let is = ap carried (c .sum .ensures) ∙ waiting-carried _ small (a .slip) (a .page .now) (w .soundness) in
-    shows-by _ _ _ _ _ w 4 (omega arith) _ (ap whole is)
+    let is = ap carried (c .sum .ensures) ∙ waiting-carried _ small (a .slip) _ (w .soundness .lines) in
+    shows-by plain-lawful _ _ _ _ _ w 4 (omega arith) _ (ap whole is)
 
 returns-6 : tie.Need-returns-6
-unfolding shown
+unfolding shownIn
 returns-6 c =
     let others = c .before in
     let w = passed (others .before) in
     let steps : SFits w64 (begin (others .before) .args .slip .steps) = search needs in
     let rest = others .match .rest in
     let fifth = last-kind _ (w .some) (w .within) (rest .0 .0 .0 .1) (rest .0 .0 .1) (rest .0 .1) (rest .1) in
-    shows-by _ _ _ _ _ w 5 fifth _ (ap whole (toZ-ofZ steps))
+    shows-by plain-lawful _ _ _ _ _ w 5 fifth _ (ap whole (toZ-ofZ steps))
 
 pub watch-spec : {M : Type 1} → statement M
 watch-spec =

@@ -4,6 +4,7 @@ use borrow.Author.Needs.{needs}
 use Rattle.theory.specs.Refusals.{firstOf}
 use Rattle.theory.specs.Limits.{degreeLimit}
 use Rattle.pages.specs.Sound.{pageChecks}
+use Rattle.pages.specs.Lawful.Plain.{plain-lawful}
 use Rattle.characters.proofs.Watches.{page-first, kind-zero, kind-above, line-unasked, line-missing, line-there}
 use Rattle.characters.proofs.sessions.watch_refusal.Statement.{statement}
 use Rattle.characters.proofs.sessions.watch_refusal.Tie as tie
@@ -14,7 +15,8 @@ page-refusal-requires c κs = search needs
 returns : tie.Need-returns
 returns c =
     let a = c .before .before .before .args in
-    page-first _ (a .slip) (a .page .now) (a .kind) (a .line) _ (c .before .page-refusal .ensures) (c .if1 .taken)
+    page-first plain-lawful _ (a .slip) (a .page .now) (a .kind) (a .line) _
+    (c .before .page-refusal .ensures) (c .if1 .taken)
 
 clear : (c : tie.Else1)
     → let a = c .before .before .before .args in
@@ -24,20 +26,21 @@ clear c = sym (c .before .page-refusal .ensures) ∙ c .if1 .left
 returns-2 : tie.Need-returns-2
 returns-2 c =
     let a = c .before .before .before .before .args in
-    kind-zero _ (a .slip) (a .page .now) (a .kind) (a .line) (clear (c .before)) (c .if2 .taken)
+    kind-zero plain-lawful _ (a .slip) (a .page .now) (a .kind) (a .line) (clear (c .before)) (c .if2 .taken)
 
 returns-3 : tie.Need-returns-3
 returns-3 c =
     let else2 = c .before in
     let a = else2 .before .before .before .before .args in
-    kind-above _ (a .slip) (a .page .now) (a .kind) (a .line) (clear (else2 .before)) (else2 .if2 .left) (c .if3 .taken)
+    kind-above plain-lawful _ (a .slip) (a .page .now) (a .kind) (a .line) (clear (else2 .before)) (else2 .if2 .left)
+    (c .if3 .taken)
 
 returns-4 : tie.Need-returns-4
 returns-4 c =
     let else3 = c .before in
     let else2 = else3 .before in
     let a = else2 .before .before .before .before .args in
-    line-unasked _ (a .slip) (a .page .now) (a .kind) (a .line) (clear (else2 .before)) (else2 .if2 .left)
+    line-unasked plain-lawful _ (a .slip) (a .page .now) (a .kind) (a .line) (clear (else2 .before)) (else2 .if2 .left)
     (else3 .if3 .left) (c .if4 .taken)
 
 returns-5 : tie.Need-returns-5
@@ -46,7 +49,7 @@ returns-5 c =
     let else3 = else4 .before in
     let else2 = else3 .before in
     let a = else2 .before .before .before .before .args in
-    line-missing _ (a .slip) (a .page .now) (a .kind) (a .line) (clear (else2 .before)) (else2 .if2 .left)
+    line-missing plain-lawful _ (a .slip) (a .page .now) (a .kind) (a .line) (clear (else2 .before)) (else2 .if2 .left)
     (else3 .if3 .left) (else4 .if4 .left) (c .if5 .taken)
 
 returns-6 : tie.Need-returns-6
@@ -55,7 +58,7 @@ returns-6 c =
     let else3 = else4 .before in
     let else2 = else3 .before in
     let a = else2 .before .before .before .before .args in
-    line-there _ (a .slip) (a .page .now) (a .kind) (a .line) (clear (else2 .before)) (else2 .if2 .left)
+    line-there plain-lawful _ (a .slip) (a .page .now) (a .kind) (a .line) (clear (else2 .before)) (else2 .if2 .left)
     (else3 .if3 .left) (else4 .if4 .left) (c .if5 .left)
 
 pub watch-refusal-spec : {M : Type 1} → statement M

@@ -96,7 +96,7 @@ same-length-2 : tie.Need-same-length-2 Inv-loop μ-loop
 same-length-2 c = search needs
 
 returns : tie.Need-returns Inv-loop μ-loop
-returns c = paid-stays _ _ _ _ _ (c .before .paid .ensures) (c .if1 .left) ∙ next (c .before)
+returns c = paid-stays _ 1 _ _ _ _ (c .before .paid .ensures) (c .if1 .left) ∙ next (c .before)
 
 same-length-3 : tie.Need-same-length-3 Inv-loop μ-loop
 same-length-3 c = search needs

@@ -13,7 +13,7 @@ use Rattle.text.specs.Text.{Text}
 use Rattle.pages.specs.Page.{lineOf}
 use Rattle.sessiontext.specs.SessionText.{lineText}
 use Rattle.sessiontext.specs.SessionText.Laws.{joined-map}
-use Rattle.sessiontext.specs.SessionText.Room.{lineRoom, line-short}
+use Rattle.sessiontext.specs.SessionText.Room.{lineRoom, plain-line-short}
 use Rattle.sessiontext.specs.SessionText.Storable.{StorableLine}
 use borrow.Author.Needs.{needs}
 use Rattle.sessiontext.proofs.lengths.all.Statement.{statement}
@@ -37,7 +37,7 @@ its-line c =
     (each-mapped (StorableLine degreeLimit) lineOf (s .args .lines .now) (s .pre .0)) (c .loop-test .taken)
 
 short : (c : tie.After-line Inv-loop μ-loop) → c .line .result ≤ lineRoom
-short c = omega (arith, c .line .ensures, line-short _ (its-line (c .before .before)))
+short c = omega (arith, c .line .ensures, plain-line-short _ (its-line (c .before .before)))
 
 loop-holds : tie.Need-loop-holds Inv-loop μ-loop
 loop-holds c = (omega arith, (refl, omega arith))

@@ -8,7 +8,7 @@ use Rattle.theory.specs.ShapeWord.{shapeOf}
 use Rattle.theory.specs.ClassWord.{classOf}
 use Rattle.pages.specs.Page.{lineOf}
 use Rattle.sessiontext.specs.SessionText.{lineText}
-use Rattle.sessiontext.specs.SessionText.Room.{lineRoom, line-short, waiting-length}
+use Rattle.sessiontext.specs.SessionText.Room.{lineRoom, plain-line-short, waiting-length}
 use borrow.Author.Needs.{needs}
 use Rattle.sessiontext.proofs.lengths.line.Statement.{statement}
 use Rattle.sessiontext.proofs.lengths.line.Tie as tie
@@ -29,7 +29,7 @@ long c =
 
 its-room : (c : tie.After-class2) →
     length (lineText (lineOf (c .before .before .before .before .args .line))) ≤ lineRoom
-its-room c = line-short _ (c .before .before .before .before .pre)
+its-room c = plain-line-short _ (c .before .before .before .before .pre)
 
 shape-requires : tie.Need-shape-requires
 shape-requires c κs = search needs

@@ -1,52 +1,36 @@
 -- `sessiontext::numbers::settled` meets its contract: the number is written out and compared with the line.
 use mathlib.Core.Path.{_≡_, _∙_, sym}
-use Prim.Native.Nat.{min}
 use native.Mathlib.Omega.{arith}
 use borrow.Author.Tests.{not-true, not-false}
 use mir.Facts.{toZ-ofZ}
 use mir.Syntax.{w64}
 use mir.Val.{toZ, ofZ}
 use Rattle.text.specs.Text.{integer, field}
-use Rattle.text.specs.Wrote.{most}
-use Rattle.text.specs.Reading.{numberIn, holds}
-use Rattle.sessiontext.specs.Private.Read.{ReadSigned}
 use Rattle.sessiontext.proofs.Own.{Own, own, own-count}
-use Rattle.sessiontext.proofs.Settled.{found-minus, settled-large, settled-short, settled-read}
+use Rattle.sessiontext.proofs.Settled.{settled-large, settled-short, settled-read}
 use borrow.Author.Needs.{needs}
 use Rattle.sessiontext.proofs.numbers.settled.Statement.{statement}
 use Rattle.sessiontext.proofs.numbers.settled.Tie as tie
 
-read : (c : tie.After-signed) → let t = c .before .before .before .before .args .line .now in
-    ReadSigned (holds 45 t) (min (numberIn t) most) (c .signed .result)
-read c =
-    let f = c .before in
-    let t = c .before .before .before .before .args .line .now in
-    rw (found-minus t (f .find .ensures), f .before .number-in .ensures) at (c .signed .ensures)
-
 -- the number as a call hands it on to another
-kept : (c : tie.After-struct-told) → let z = c .before .before .before .signed .result .number in
+kept : (c : tie.After-struct-told) → let z = c .before .before .before .integer-in .result .number in
     toZ w64 (ofZ w64 z) ≡ z
 kept c = toZ-ofZ (search needs)
 
-line : (c : tie.After-integer) → let z = c .before .before .before .before .before .before .signed .result .number in
+line : (c : tie.After-integer)
+    → let z = c .before .before .before .before .before .before .integer-in .result .number in
     Own (field "settled=" (integer z)) (c .integer .result) (c .integer .last .1 .1 .0)
 line c =
     let s = c .before .before .before .before .before .before in
-    let short = settled-short _ (read s) (not-false _ (c .before .before .before .before .if1 .left)) in
+    let short = settled-short _ (s .integer-in .ensures) (not-false _ (c .before .before .before .before .if1 .left)) in
     let z = kept (c .before .before .before) in
     own (rw z at (c .integer .ensures)) short (omega arith)
 
-number-in-requires : tie.Need-number-in-requires
-number-in-requires c κs = search needs
-
-find-requires : tie.Need-find-requires
-find-requires c κs = search needs
-
-signed-requires : tie.Need-signed-requires
-signed-requires c κs = search needs
+integer-in-requires : tie.Need-integer-in-requires
+integer-in-requires c κs = search needs
 
 returns : tie.Need-returns
-returns c = settled-large _ (read (c .before .before)) (not-true _ (c .if1 .taken))
+returns c = settled-large _ (c .before .before .integer-in .ensures) (not-true _ (c .if1 .taken))
 
 slice-aggregate-integer : tie.Need-slice-aggregate-integer
 slice-aggregate-integer c = search needs
@@ -72,16 +56,14 @@ returns-2 c =
     let l = line (c .before .before .before) .front in
     let same = c .same .ensures in
     rw (kept (c .before .before .before .before .before .before))
-    (settled-read _ (read s) (not-false _ (c .before .before .before .before .before .before
+    (settled-read _ (s .integer-in .ensures) (not-false _ (c .before .before .before .before .before .before
     .before .if1 .left)) (λ b. same .0 b ∙ l, λ e. same .1 (e ∙ sym l)))
 
 pub settled-spec : {M : Type 1} → statement M
 settled-spec =
     tie.close
     (tie.spec
-    number-in-requires
-    find-requires
-    signed-requires
+    integer-in-requires
     returns
     slice-aggregate-integer
     slice-aggregate-integer-2

@@ -1,91 +1,58 @@
--- `sessiontext::writing::line` meets its contract.
-use mathlib.Core.Path.{sym}
-use lib.Seq.{length-take-le}
-use Rattle.theory.specs.ShapeWord.{shapeOf}
-use Rattle.theory.specs.ClassWord.{classOf}
-use Rattle.words.proofs.Callers.{FrontGiven}
-use Rattle.pages.specs.Page.{lineOf}
-use Rattle.sessiontext.specs.Reading.Exact.{sign-read}
-use Rattle.sessiontext.proofs.Words.{shape-parts, class-parts}
+-- `sessiontext::writing::line` meets its contract: a name, the sign and what stands behind it.
+use mathlib.Core.Path.{_≡_}
+use native.Mathlib.Omega.{arith}
+use Prim.Native.Nat.{_≤_}
+use Rattle.theory.specs.Basics.{length}
+use Rattle.text.specs.Wrote.{most}
+use Rattle.text.specs.Wrote.Laws.{wrote-then}
+use Rattle.sessiontext.specs.SessionText.Faithful.Plain.{sign-read}
+use Rattle.sessiontext.specs.SessionText.Laws.{weighted-parts}
 use borrow.Author.Needs.{needs}
 use Rattle.sessiontext.proofs.writing.line.Statement.{statement}
 use Rattle.sessiontext.proofs.writing.line.Tie as tie
 
-rows : (c : tie.After-parts)
-    → FrontGiven (shapeOf (lineOf (c .before .before .before
-    .before .args .line) .shape)) (c .parts .result) (c .parts .last .1 .0)
-rows c = shape-parts (c .before .before .before .before .pre .shape) (rw (c .before
-    .before .shape .ensures) at (c .parts .ensures))
+slice-aggregate-put : tie.Need-slice-aggregate-put
+slice-aggregate-put c = search needs
 
-cycles : (c : tie.After-parts2)
-    → FrontGiven (classOf (lineOf (c .before .before .before .before .before .before .before
-    .before .args .line) .class)) (c .parts2 .result) (c .parts2 .last .1 .0)
-cycles c = class-parts (c .before .before .before .before .before .before .before .before .pre .class) (rw (c
-    .before .before .class .ensures) at (c .parts2 .ensures))
-
-shape-requires : tie.Need-shape-requires
-shape-requires c κs = search needs
-
-slice-aggregate-parts : tie.Need-slice-aggregate-parts
-slice-aggregate-parts c = search needs
-
-parts-requires : tie.Need-parts-requires
-parts-requires c κs = search needs
-
-class-requires : tie.Need-class-requires
-class-requires c κs = search needs
-
-slice-aggregate-parts-2 : tie.Need-slice-aggregate-parts-2
-slice-aggregate-parts-2 c = search needs
-
-parts-requires-2 : tie.Need-parts-requires-2
-parts-requires-2 c κs = search needs
+put-requires : tie.Need-put-requires
+put-requires c κs = search needs
 
 minus-requires : tie.Need-minus-requires
 minus-requires c κs = search needs
 
-array-share-prefix-shape : tie.Need-array-share-prefix-shape
-array-share-prefix-shape c = rows (c .before .before .before .before .before .before) .inside
+sign-requires : tie.Need-sign-requires
+sign-requires c κs = search needs
 
-slice-aggregate-waiting : tie.Need-slice-aggregate-waiting
-slice-aggregate-waiting c = sym (length-take-le _ _ (rows (c .before .before .before .before .before .before
-    .before) .inside))
-
-array-share-prefix-class : tie.Need-array-share-prefix-class
-array-share-prefix-class c = cycles (c .before .before .before) .inside
-
-slice-aggregate-waiting-2 : tie.Need-slice-aggregate-waiting-2
-slice-aggregate-waiting-2 c = sym (length-take-le _ _ (cycles (c .before .before .before .before) .inside))
-
-waiting-requires : tie.Need-waiting-requires
-waiting-requires c κs = search needs
+words-behind-requires : tie.Need-words-behind-requires
+words-behind-requires c κs =
+    let p = c .before .before .before .before .before .before .before .before .before .before .before .before .pre in
+    (p .shape, p .class)
 
 same-length : tie.Need-same-length
 same-length c = search needs
 
+room : (c : tie.After-put) → length (c .before .before .before .before .args .out .now) ≤ most
+room c = omega arith
+
 returns : tie.Need-returns
 returns c =
-    let w = c .before .before in
-    let m = w .before .before .before .before in
-    let k = m .before .before in
-    let r = k .before .before .before .before in
-    rw (sign-read _, ← m .minus .ensures, ← rows r .front, ← cycles k .front) (w .waiting .ensures)
+    let rest = c .before .before in
+    let sign = rest .before .before .before .before in
+    let minus = sign .before .before in
+    let name = minus .before .before .before in
+    let m = room name in
+    rw (sign-read _, ← minus .minus .ensures, weighted-parts _ _ _)
+    (wrote-then (wrote-then (name .put .ensures) m (sign .sign .ensures)) m
+    (rest .words-behind .ensures))
 
 pub line-spec : {M : Type 1} → statement M
 line-spec =
     tie.close
     (tie.spec
-    shape-requires
-    slice-aggregate-parts
-    parts-requires
-    class-requires
-    slice-aggregate-parts-2
-    parts-requires-2
+    slice-aggregate-put
+    put-requires
     minus-requires
-    array-share-prefix-shape
-    slice-aggregate-waiting
-    array-share-prefix-class
-    slice-aggregate-waiting-2
-    waiting-requires
+    sign-requires
+    words-behind-requires
     same-length
     returns)

@@ -4,6 +4,7 @@ use lib.ListN.{length-map}
 use Rattle.text.specs.Wrote.Laws.{wrote-then}
 use Rattle.pages.specs.Page.{lineOf}
 use Rattle.sessiontext.specs.SessionText.Laws.{session-parts}
+use Rattle.sessiontext.specs.SessionText.{plainForm}
 use borrow.Author.Needs.{needs}
 use Rattle.sessiontext.proofs.writing.session.Statement.{statement}
 use Rattle.sessiontext.proofs.writing.session.Tie as tie
@@ -22,7 +23,7 @@ returns c =
     let k = c .before .before in
     let h = k .before .before .before .before in
     let start = h .before .before .before .before in
-    rw (session-parts (start .args .slip) _, length-map (start .args .lines .now) lineOf)
+    rw (session-parts plainForm (start .args .slip) _, length-map (start .args .lines .now) lineOf)
     (wrote-then (h .head .ensures) (omega arith) (k .all .ensures))
 
 pub session-spec : {M : Type 1} → statement M

@@ -1,10 +1,11 @@
--- `sessiontext::writing::waiting` meets its contract: a name, a value and a newline, one behind the other.
+-- `sessiontext::writing::waiting` meets its contract: a name, a sign and what stands behind it.
+use mathlib.Core.Path.{_≡_}
 use native.Mathlib.Omega.{arith}
 use Prim.Native.Nat.{_≤_}
 use Rattle.theory.specs.Basics.{length}
 use Rattle.text.specs.Wrote.{most}
 use Rattle.text.specs.Wrote.Laws.{wrote-then}
-use Rattle.sessiontext.specs.SessionText.{waitingText}
+use Rattle.sessiontext.specs.SessionText.Laws.{weighted-parts}
 use borrow.Author.Needs.{needs}
 use Rattle.sessiontext.proofs.writing.waiting.Statement.{statement}
 use Rattle.sessiontext.proofs.writing.waiting.Tie as tie
@@ -15,11 +16,11 @@ slice-aggregate-put c = search needs
 put-requires : tie.Need-put-requires
 put-requires c κs = search needs
 
-value-requires : tie.Need-value-requires
-value-requires c κs = search needs
+sign-requires : tie.Need-sign-requires
+sign-requires c κs = search needs
 
-byte-requires : tie.Need-byte-requires
-byte-requires c κs = search needs
+behind-requires : tie.Need-behind-requires
+behind-requires c κs = search needs
 
 same-length : tie.Need-same-length
 same-length c = search needs
@@ -28,15 +29,15 @@ room : (c : tie.After-put) → length (c .before .before .before .before .before
 room c = omega arith
 
 returns : tie.Need-returns
-unfolding waitingText
 returns c =
-    let newline = c .before .before in
-    let value = newline .before .before .before .before in
-    let name = value .before .before .before .before in
+    let rest = c .before .before in
+    let weight = rest .before .before .before .before in
+    let name = weight .before .before .before .before in
     let m = room name in
-    wrote-then (wrote-then (name .put .ensures) m (value .value .ensures)) m (newline .byte .ensures)
+    rw (weighted-parts _ _ _)
+    (wrote-then (wrote-then (name .put .ensures) m (weight .sign .ensures)) m (rest .behind .ensures))
 
 pub waiting-spec : {M : Type 1} → statement M
 waiting-spec =
     tie.close
-    (tie.spec slice-aggregate-put put-requires value-requires byte-requires same-length returns)
+    (tie.spec slice-aggregate-put put-requires sign-requires behind-requires same-length returns)

@@ -21,7 +21,7 @@ sum-times-pred a b c h =
 sum-times-zero : (b c : ℤ) → (pos 0 +ℤ b) *ℤ c ≡ pos 0 *ℤ c +ℤ b *ℤ c
 sum-times-zero b c = ap (λ x. x *ℤ c) (+ℤ-idl b) ∙ sym (ap (λ x. x +ℤ b *ℤ c) (zero-*ℤ c) ∙ +ℤ-idl (b *ℤ c))
 
-sum-times : (a b c : ℤ) → (a +ℤ b) *ℤ c ≡ a *ℤ c +ℤ b *ℤ c
+pub sum-times : (a b c : ℤ) → (a +ℤ b) *ℤ c ≡ a *ℤ c +ℤ b *ℤ c
 sum-times (pos zero) b c = sum-times-zero b c
 sum-times (pos (suc n)) b c = sum-times-suc (pos n) b c (sum-times (pos n) b c)
 sum-times (negsuc zero) b c = sum-times-pred (pos 0) b c (sum-times-zero b c)

@@ -1,0 +1,2 @@
+-- What the calls of the gathered mode promise is stated in `characters`, over a mode: here is only what the code needs.
+pub mod Private

@@ -1,0 +1,99 @@
+// Waiting lines with coefficients read off a text: once to judge their form, and again to put them down.
+ghost use mathlib.Core.Path.{_≡_};
+ghost use Prim.Native.Nat.{_≤_};
+ghost use Rattle.theory.specs.Basics.{length, drop};
+ghost use Rattle.theory.specs.Basics.Laws.{Each};
+ghost use Rattle.theory.specs.Limits.{degreeLimit};
+ghost use Rattle.theory.specs.Refusals.{firstOf};
+ghost use Rattle.text.specs.Reading.{linesOf};
+ghost use Rattle.sessiontext.specs.SessionText.{gatheredForm};
+ghost use Rattle.sessiontext.specs.Reading.{lineFaultsBy};
+ghost use Rattle.sessiontext.specs.Reading.Forms.{WaitingBy};
+ghost use Rattle.sessiontext.specs.Private.Weighted.{ReadWeighted, PutDown};
+use super::numbers;
+use super::waiting;
+use super::weighted;
+use text::reading;
+
+pub struct WeightedRead {
+    pub formed: bool,
+    pub word: u64,
+    pub coefficient: i64,
+}
+
+// A waiting line. Its word is that of the line with its sign left out.
+fn waiting_line(line: &[u8]) -> WeightedRead
+    ensures { λ r. ⌜ ReadWeighted (now (line .entry)) r ⌝ }
+{
+    let mut rows = [0u8; 16];
+    let mut cycles = [0u8; 16];
+    let read = waiting::parts_in(line, &mut rows, &mut cycles);
+    let first = reading::find(59, line, 0);
+    let weight = numbers::integer_in(&line[..first]);
+    if !waiting::both(weight.formed, read.formed) {
+        return WeightedRead {
+            formed: false,
+            word: 0,
+            coefficient: 0,
+        };
+    }
+    let row_count = read.rows;
+    let cycle_count = read.cycles;
+    let coefficient = weight.number;
+    let mut own = [0u8; weighted::LINE_ROOM];
+    let end = weighted::waiting(
+        coefficient,
+        &rows[..row_count],
+        &cycles[..cycle_count],
+        &mut own,
+        0,
+    );
+    WeightedRead {
+        formed: check::same(line, &own[..end]),
+        word: read.word % 0x8000_0000_0000_0000,
+        coefficient,
+    }
+}
+
+// The first waiting line of a text from a place on that is not of its form, by its number in the text, or 0.
+pub fn first_fault(text: &[u8], start: usize) -> usize
+    requires { ⌜ (7 ≤ start) × (start ≤ length (now text)) ⌝ }
+    ensures { λ r. ⌜ r ≡ firstOf (lineFaultsBy gatheredForm degreeLimit 8
+        (linesOf (drop start (now (text .entry))))) ⌝ }
+{
+    let mut at = start;
+    let mut count = 0;
+    while at < text.len() {
+        let end = reading::line_end(text, at);
+        let read = waiting_line(&text[at..end]);
+        if !read.formed {
+            return count + 8;
+        }
+        count += 1;
+        at = end;
+    }
+    0
+}
+
+// Puts the waiting lines of a text from a place on, all of their form, at the front of a page and a column of
+// coefficients that have room for them.
+pub fn put(text: &[u8], start: usize, page: &mut [u64], column: &mut [i64])
+    requires { ⌜ start ≤ length (now text) ⌝ }
+    requires { ⌜ Each (WaitingBy gatheredForm degreeLimit) (linesOf (drop start (now text))) ⌝ }
+    requires { ⌜ (length (linesOf (drop start (now text))) ≤ length (now page))
+        × (length (now page) ≡ length (now column)) ⌝ }
+    ensures { λ _. ⌜ PutDown (linesOf (drop start (now (text .entry)))) (now (page .entry)) (now (column .entry))
+        (now (page .exit)) (now (column .exit)) ⌝ }
+{
+    let mut at = start;
+    let mut count = 0;
+    while at < text.len() {
+        let end = reading::line_end(text, at);
+        let read = waiting_line(&text[at..end]);
+        page[count] = read.word;
+        let coefficient = read.coefficient;
+        column[count] = coefficient;
+        count += 1;
+        at = end;
+    }
+}

@@ -21,7 +21,7 @@ use Rattle.pages.specs.Sound.{soundLine, soundWords}
 use Rattle.pages.specs.Sound.Laws.{sound-line, asked}
 use Rattle.pages.specs.Budget.{left, overspent, budgetOf, spentOn, spentAll, Budget}
 use Rattle.pages.specs.Budget.Laws.{overspent-stays}
-use Rattle.pages.specs.Private.Degrees.{soundDegree, mostDegree, takenFrom, paidFor}
+use Rattle.pages.specs.Private.Degrees.{soundDegree, mostDegree, paidFor}
 
 -- ---- a sound degree
 module _ (n : ℕ) (l : Line) (d : ℕ) (e : d ≡ soundDegree n l) where
@@ -63,7 +63,7 @@ two-tests limit b l = go (b .enough)
 -- ---- a line's degree tells what the line leaves
 module _ (limit : ℕ) (b : Budget) (l : Line) (d : ℕ) (e : d ≡ soundDegree (mostDegree limit b) l) where
   paid-is : paidFor (natAbs (l .weight)) d b ≡ spentOn limit b l
-  unfolding paidFor takenFrom spentOn
+  unfolding paidFor spentOn
   paid-is =
       by-soundness (mostDegree limit b) l d e (paidFor (natAbs (l .weight)) d b ≡ spentOn limit b l)
       (λ t q.
@@ -71,7 +71,7 @@ module _ (limit : ℕ) (b : Budget) (l : Line) (d : ℕ) (e : d ≡ soundDegree 
       rw (tests .0, tests .1, q, le-leb 1 (lineDegree l) (sound-line _ l t .some)))
       (λ t q. rw (two-tests limit b l, t, q))
 
-  pub spent-one : (c : Budget) (lines : List Line) → c ≡ paidFor (natAbs (l .weight)) d b
+  spent-one : (c : Budget) (lines : List Line) → c ≡ paidFor (natAbs (l .weight)) d b
       → spentAll limit c lines ≡ spentAll limit b (l ∷ lines)
   unfolding spentAll
   spent-one c lines is = ap (λ (c : Budget). spentAll limit c lines) (is ∙ paid-is)
@@ -79,42 +79,38 @@ module _ (limit : ℕ) (b : Budget) (l : Line) (d : ℕ) (e : d ≡ soundDegree 
 -- ---- once overspent, it stays so
 pub paid-stays : (limit k d : ℕ) (b c : Budget) (lines : List Line) → c ≡ paidFor k d b → c .enough ≡ false
     → c ≡ spentAll limit c lines
-unfolding paidFor takenFrom
-paid-stays limit k d b c lines e =
-    rw e (go (1 ≤? d) (k * factorial d ≤? b .value && S d ≤? b .span))
+unfolding paidFor
+paid-stays limit k d b c lines e = rw e (go (1 ≤? d && k * factorial d ≤? b .value && S d ≤? b .span))
   where
-    after : Bool → Bool → Budget
-    after s t =
-        cond s (cond t (left (b .degree) (b .value - k * factorial d) (b .span - S d)) overspent) overspent
+    after : Bool → Budget
+    after t = cond t (left (b .degree) (b .value - k * factorial d) (b .span - S d)) overspent
 
-    go : (s t : Bool) → after s t .enough ≡ false → after s t ≡ spentAll limit (after s t) lines
-    go true true n = absurd (false≢true (sym n))
-    go true false n = sym (overspent-stays limit lines)
-    go false t n = sym (overspent-stays limit lines)
+    go : (t : Bool) → after t .enough ≡ false → after t ≡ spentAll limit (after t) lines
+    go true n = absurd (false≢true (sym n))
+    go false n = sym (overspent-stays limit lines)
 
 -- ---- paying, test by test
-module _ (value span : ℕ) (b : Budget) where
-  pub too-dear : b .value < value → overspent ≡ takenFrom value span b
-  unfolding takenFrom
-  too-dear short = rw (lt-leb value (b .value) short)
-
-  module _ (paid : value ≤ b .value) where
-    pub too-long : b .span < span → overspent ≡ takenFrom value span b
-    unfolding takenFrom
-    too-long short = rw (le-leb value (b .value) paid, lt-leb span (b .span) short)
-
-    pub all-taken : span ≤ b .span → left (b .degree) (b .value - value) (b .span - span) ≡ takenFrom value span b
-    unfolding takenFrom
-    all-taken lasts = rw (le-leb value (b .value) paid, le-leb span (b .span) lasts)
-
 module _ (k d : ℕ) (b : Budget) where
   pub no-line : d ≡ 0 → overspent ≡ paidFor k d b
   unfolding paidFor
   no-line none = rw none
 
-  pub some-line : (d ≡ 0 → ⊥) → takenFrom (k * factorial d) (S d) b ≡ paidFor k d b
-  unfolding paidFor
-  some-line some = rw (le-leb 1 d (omega arith))
+  module _ (some : d ≡ 0 → ⊥) (value : ℕ) (cost : value ≡ k * factorial d) where
+    is-some : 1 ≤? d ≡ true
+    is-some = le-leb 1 d (omega arith)
+
+    pub too-dear : b .value < value → overspent ≡ paidFor k d b
+    unfolding paidFor
+    too-dear short = rw (is-some, ← cost, lt-leb value (b .value) short)
+
+    module _ (paid : value ≤ b .value) (span : ℕ) (steps : span ≡ S d) where
+      pub too-long : b .span < span → overspent ≡ paidFor k d b
+      unfolding paidFor
+      too-long short = rw (is-some, ← cost, ← steps, le-leb value (b .value) paid, lt-leb span (b .span) short)
+
+      pub all-paid : span ≤ b .span → left (b .degree) (b .value - value) (b .span - span) ≡ paidFor k d b
+      unfolding paidFor
+      all-paid lasts = rw (is-some, ← cost, ← steps, le-leb value (b .value) paid, le-leb span (b .span) lasts)
 
 -- ---- from line to line
 pub spent-next : (limit : ℕ) (b c : Budget) (xs : List ℕ) (i d : ℕ) → i < length xs

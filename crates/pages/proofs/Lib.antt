@@ -8,6 +8,7 @@ pub mod AllDifferent
 pub mod Chains
 pub mod Budgets
 pub mod WeightedLines
+pub mod GatheredBudgets
 pub mod SoundPages
 pub mod GatheredPages
 pub mod Unique

@@ -28,7 +28,7 @@ fn read(class: bool, word: u32) -> u32
 }
 
 // The same, read only where it is not known: what is found of a word is written to its place, where places are lent.
-fn word_degree(class: bool, word: u32, known: &mut [u64]) -> u32
+pub fn word_degree(class: bool, word: u32, known: &mut [u64]) -> u32
     requires { ⌜ AllKnown class (now known) ⌝ }
     ensures { λ r. ⌜ (r ≡ wordDegree degreeLimit class word) × AllKnown class (now (known .exit)) ⌝ }
 {

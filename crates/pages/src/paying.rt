@@ -5,7 +5,7 @@ ghost use lib.IntN.{natAbs};
 ghost use Rattle.theory.specs.Bounds.{factorial, S};
 ghost use Rattle.theory.specs.Limits.{degreeLimit};
 ghost use Rattle.pages.specs.Budget.{overspent as noBudget, budgetOf};
-ghost use Rattle.pages.specs.Private.Degrees.{mostDegree, takenFrom};
+ghost use Rattle.pages.specs.Private.Degrees.{mostDegree};
 ghost use Rattle.pages.specs.Private.Tables.{Tabled};
 use super::Budget;
 use super::Slip;
@@ -101,22 +101,4 @@ pub fn most_degree(budget: Budget) -> u32
         return budget.degree;
     }
     0
-}
-
-// What is left of a budget where this value is taken from the one and this span from the other.
-pub fn taken(budget: Budget, value: u64, span: u64) -> Budget
-    ensures { λ r. ⌜ r ≡ takenFrom value span budget ⌝ }
-{
-    if budget.value < value {
-        return overspent();
-    }
-    if budget.span < span {
-        return overspent();
-    }
-    Budget {
-        enough: true,
-        degree: budget.degree,
-        value: budget.value - value,
-        span: budget.span - span,
-    }
 }

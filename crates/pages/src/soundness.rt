@@ -32,7 +32,20 @@ fn paid(budget: Budget, degree: u32, factorials: &[u64], spans: &[u64]) -> Budge
     if degree == 0 {
         return paying::overspent();
     }
-    paying::taken(budget, factorials[degree as usize], spans[degree as usize])
+    let value = factorials[degree as usize];
+    if budget.value < value {
+        return paying::overspent();
+    }
+    let span = spans[degree as usize];
+    if budget.span < span {
+        return paying::overspent();
+    }
+    Budget {
+        enough: true,
+        degree: budget.degree,
+        value: budget.value - value,
+        span: budget.span - span,
+    }
 }
 
 // What lines leave of a budget, words being remembered where places are lent.

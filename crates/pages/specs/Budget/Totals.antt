@@ -17,7 +17,7 @@ abbrev pub suffices : ℕ → ℕ → ℕ → List Line → Bool
 suffices n value span lines = every (soundLine n) lines && values lines ≤? value && spans lines ≤? span
 
 -- a budget that was reduced suffices for the rest just where it sufficed for all
-reduced : (a first all : ℕ) → first ≤ all → (a ≤? (all - first)) ≡ ((first + a) ≤? all)
+pub reduced : (a first all : ℕ) → first ≤ all → (a ≤? (all - first)) ≡ ((first + a) ≤? all)
 reduced a first all h = same-test (a ≤? (all - first)) ((first + a) ≤? all)
     (λ t. le-leb (first + a) all (omega (arith, leb-true a (all - first) t)))
     (λ t. le-leb a (all - first) (omega (arith, leb-true (first + a) all t)))

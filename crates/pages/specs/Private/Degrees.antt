@@ -1,8 +1,6 @@
 -- Degrees that a line can have, and what is remembered of words.
 --   soundDegree n l        the degree of a sound line l of degree n at most, and 0 of any other
 --   mostDegree limit b     the greatest degree of a line that the budget b can be spent on: 0 where it does not suffice
---   takenFrom v s b        what the budget b leaves where v is taken from the one and s from the other; overspent where
---                          one of the two does not suffice
 --   paidFor k d b          what a line of degree d leaves of the budget b, its weight being of the size k; overspent
 --                          where one of the two does not suffice, or d is 0
 --   wordDegree limit b w   the degree of the word w, of a class where b, else of a shape, and 0 where it is refused or
@@ -27,12 +25,10 @@ soundDegree n l = cond (soundLine n l) (lineDegree l) 0
 abbrev pub mostDegree : ℕ → Budget → ℕ
 mostDegree limit b = cond (b .enough) (min (b .degree) limit) 0
 
-unfoldable pub takenFrom : ℕ → ℕ → Budget → Budget
-takenFrom value span b =
-    cond (value ≤? b .value && span ≤? b .span) (left (b .degree) (b .value - value) (b .span - span)) overspent
-
 unfoldable pub paidFor : ℕ → ℕ → Budget → Budget
-paidFor k d b = cond (1 ≤? d) (takenFrom (k * factorial d) (S d) b) overspent
+paidFor k d b =
+    cond (1 ≤? d && k * factorial d ≤? b .value && S d ≤? b .span)
+    (left (b .degree) (b .value - k * factorial d) (b .span - S d)) overspent
 
 unfoldable pub wordDegree : ℕ → Bool → ℕ → ℕ
 wordDegree limit true w = natAbs (classDegree limit w .number)

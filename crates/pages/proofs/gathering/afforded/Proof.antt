@@ -1,44 +1,79 @@
--- `pages::gathering::afforded` meets its contract: few lines or many, and zeros say nothing of a word that is not so.
+-- `pages::gathering::afforded` meets its contract: the words leave enough for what the coefficients ask for besides;
+-- few lines or many, and zeros say nothing of a word that is not so.
+use mathlib.Core.Path.{_∙_}
 use borrow.Author.Needs.{needs}
+use Rattle.theory.specs.Limits.{degreeLimit}
+use Rattle.pages.proofs.SpanTable.{factorials-table}
 use Rattle.pages.proofs.WordDegrees.{nothing-known}
+use Rattle.pages.proofs.GatheredBudgets.{words-dear, then-besides}
 use Rattle.pages.proofs.gathering.afforded.Statement.{statement}
 use Rattle.pages.proofs.gathering.afforded.Tie as tie
 
-slice-aggregate-afforded-with : tie.Need-slice-aggregate-afforded-with
-slice-aggregate-afforded-with c = search needs
+-- where the function began
+abbrev start : tie.After-spend → tie.Start
+start c = c .before .before
 
-slice-aggregate-afforded-with-2 : tie.Need-slice-aggregate-afforded-with-2
-slice-aggregate-afforded-with-2 c = search needs
+spend-requires : tie.Need-spend-requires
+spend-requires c κs = search needs
 
-afforded-with-requires : tie.Need-afforded-with-requires
-afforded-with-requires c κs = search needs
+slice-aggregate-besides : tie.Need-slice-aggregate-besides
+slice-aggregate-besides c = search needs
+
+slice-aggregate-besides-2 : tie.Need-slice-aggregate-besides-2
+slice-aggregate-besides-2 c = search needs
+
+besides-requires : tie.Need-besides-requires
+besides-requires c κs =
+    let same = c .before .before .before .before .before .before .pre in
+    (same, factorials-table, nothing-known 0 .of-shapes)
 
 returns : tie.Need-returns
-returns c = search needs
+returns c =
+    let then1 = c .before .before .before .before .before in
+    let spent = then1 .before in
+    let a = start spent .args in
+    c .before .besides .ensures
+    ∙ then-besides degreeLimit (a .lines .now) (a .coefficients .now) (start spent .pre) (a .budget) _
+    (spent .spend .ensures) (then1 .if1 .taken)
 
-slice-aggregate-afforded-with-3 : tie.Need-slice-aggregate-afforded-with-3
-slice-aggregate-afforded-with-3 c = search needs
+slice-aggregate-besides-3 : tie.Need-slice-aggregate-besides-3
+slice-aggregate-besides-3 c = search needs
 
-slice-aggregate-afforded-with-4 : tie.Need-slice-aggregate-afforded-with-4
-slice-aggregate-afforded-with-4 c = search needs
+slice-aggregate-besides-4 : tie.Need-slice-aggregate-besides-4
+slice-aggregate-besides-4 c = search needs
 
-afforded-with-requires-2 : tie.Need-afforded-with-requires-2
-afforded-with-requires-2 c κs =
-    let p = c .before .before .before .before .before .before .pre in
-    (p .0, p .1, p .2, nothing-known 229)
+besides-requires-2 : tie.Need-besides-requires-2
+besides-requires-2 c κs =
+    let same = c .before .before .before .before .before .before .pre in
+    (same, factorials-table, nothing-known 229 .of-shapes)
 
 returns-2 : tie.Need-returns-2
-returns-2 c = search needs
+returns-2 c =
+    let then1 = c .before .before .before .before .before in
+    let spent = then1 .before in
+    let a = start spent .args in
+    c .before .besides2 .ensures
+    ∙ then-besides degreeLimit (a .lines .now) (a .coefficients .now) (start spent .pre) (a .budget) _
+    (spent .spend .ensures) (then1 .if1 .taken)
+
+returns-3 : tie.Need-returns-3
+returns-3 c =
+    let spent = c .before in
+    let a = start spent .args in
+    words-dear degreeLimit (a .lines .now) (a .coefficients .now) (start spent .pre) (a .budget) _
+    (spent .spend .ensures) (c .if1 .left)
 
 pub afforded-spec : {M : Type 1} → statement M
 afforded-spec =
     tie.close
     (tie.spec
-    slice-aggregate-afforded-with
-    slice-aggregate-afforded-with-2
-    afforded-with-requires
+    spend-requires
+    slice-aggregate-besides
+    slice-aggregate-besides-2
+    besides-requires
     returns
-    slice-aggregate-afforded-with-3
-    slice-aggregate-afforded-with-4
-    afforded-with-requires-2
-    returns-2)
+    slice-aggregate-besides-3
+    slice-aggregate-besides-4
+    besides-requires-2
+    returns-2
+    returns-3)

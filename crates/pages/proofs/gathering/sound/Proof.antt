@@ -10,7 +10,6 @@ use Rattle.pages.specs.Mode.{alongside, gatheredMode}
 use Rattle.pages.specs.Budget.{Budget}
 use Rattle.pages.specs.Private.Differences.{allDifferent}
 use Rattle.pages.specs.Private.Gathered.{afforded}
-use Rattle.pages.proofs.SpanTable.{factorials-table, spans-tabled}
 use Rattle.pages.proofs.SoundPages.{other-mode, lines-long}
 use Rattle.pages.proofs.GatheredPages.{as-many, areAfforded, not-afforded, two-equal, not-idle, then-column}
 use Rattle.pages.proofs.Zeros.{all-from}
@@ -19,7 +18,7 @@ use Rattle.pages.proofs.gathering.sound.Tie as tie
 
 -- ---- places: where the lines fit, the arguments, where the budgets suffice, and where no two lines are equal
 abbrev fitting : tie.After-afforded → tie.Else2
-fitting c = c .before .before .before .before .before .before .before .before
+fitting c = c .before .before .before .before
 
 abbrev begin : tie.Else2 → tie.Start
 begin c = c .before .before .before .before
@@ -48,7 +47,7 @@ is-afforded c =
     let n = a .slip .lines in
     c .afforded .ensures
     ∙ ap (λ (b : Budget). afforded degreeLimit b (alongside (take n (a .page .now)) (take n (a .coefficients .now))))
-    (c .before .before .before .before .before .first .ensures)
+    (c .before .before .before .budget .ensures)
 
 are-paid : (c : tie.Then3)
     → let a = begin (fitting (c .before)) .args in
@@ -73,33 +72,21 @@ returns c = other-mode gatheredMode _ _ _ (c .if1 .taken)
 returns-2 : tie.Need-returns-2
 returns-2 c = lines-long gatheredMode _ _ _ (c .if2 .taken)
 
-slice-aggregate-first : tie.Need-slice-aggregate-first
-slice-aggregate-first c = search needs
-
-slice-aggregate-first-2 : tie.Need-slice-aggregate-first-2
-slice-aggregate-first-2 c = search needs
-
-first-requires : tie.Need-first-requires
-first-requires c κs = (factorials-table, spans-tabled)
+budget-requires : tie.Need-budget-requires
+budget-requires c κs = search needs
 
 slice-aggregate-afforded : tie.Need-slice-aggregate-afforded
-slice-aggregate-afforded c = sym (length-take-le _ _ (c .before .before .before .before .if2 .left))
+slice-aggregate-afforded c = sym (length-take-le _ _ (c .before .before .if2 .left))
 
 slice-aggregate-afforded-2 : tie.Need-slice-aggregate-afforded-2
 slice-aggregate-afforded-2 c =
-    let f = c .before .before .before .before .before in
+    let f = c .before .before .before in
     sym (length-take-le _ _ (omega (arith, f .if2 .left, same f)))
-
-slice-aggregate-afforded-3 : tie.Need-slice-aggregate-afforded-3
-slice-aggregate-afforded-3 c = search needs
-
-slice-aggregate-afforded-4 : tie.Need-slice-aggregate-afforded-4
-slice-aggregate-afforded-4 c = search needs
 
 afforded-requires : tie.Need-afforded-requires
 afforded-requires c κs =
-    let f = c .before .before .before .before .before .before .before in
-    (as-many _ _ _ (f .if2 .left) (same f), factorials-table, spans-tabled)
+    let f = c .before .before .before in
+    as-many _ _ _ (f .if2 .left) (same f)
 
 slice-aggregate-different : tie.Need-slice-aggregate-different
 slice-aggregate-different c = sym (length-take-le _ _ (fitting (c .before .before) .if2 .left))
@@ -175,13 +162,9 @@ sound-spec =
     (tie.spec
     returns
     returns-2
-    slice-aggregate-first
-    slice-aggregate-first-2
-    first-requires
+    budget-requires
     slice-aggregate-afforded
     slice-aggregate-afforded-2
-    slice-aggregate-afforded-3
-    slice-aggregate-afforded-4
     afforded-requires
     slice-aggregate-different
     different-requires

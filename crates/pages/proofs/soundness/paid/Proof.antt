@@ -1,14 +1,23 @@
--- `pages::soundness::paid` meets its contract: what the degree's places in the tables hold is taken.
-use mathlib.Core.Path.{sym, _∙_, ap₂}
+-- `pages::soundness::paid` meets its contract: each test stops at no budget, or leaves it to those behind it.
+use mathlib.Core.Path.{_≡_, sym, _∙_}
 use native.Mathlib.Nat.{one-mul}
 use borrow.Author.Needs.{needs}
-use Rattle.theory.specs.Basics.{ℕ}
+use Rattle.theory.specs.Basics.{getD, _*_}
 use Rattle.theory.specs.Bounds.{factorial}
-use Rattle.pages.specs.Private.Degrees.{takenFrom}
-use Rattle.pages.proofs.Budgets.{no-line, some-line}
+use Rattle.pages.proofs.Budgets.{no-line, too-dear, too-long, all-paid}
 use Rattle.pages.proofs.SpanTable.{tabled-is}
 use Rattle.pages.proofs.soundness.paid.Statement.{statement}
 use Rattle.pages.proofs.soundness.paid.Tie as tie
+
+-- where the function began
+abbrev start : tie.Else1 → tie.Start
+start c = c .before .before .before
+
+cost-is : (c : tie.Else1)
+    → let a = start c .args in getD (a .factorials .now) (a .degree) 0 ≡ 1 * factorial (a .degree)
+cost-is c =
+    let p = start c .pre in
+    tabled-is (p .0) _ (p .2) ∙ sym (one-mul (factorial (start c .args .degree)))
 
 overspent-requires : tie.Need-overspent-requires
 overspent-requires c κs = search needs
@@ -16,31 +25,47 @@ overspent-requires c κs = search needs
 returns : tie.Need-returns
 returns c = c .overspent .ensures ∙ no-line 1 _ _ (c .before .if1 .taken)
 
-mul-taken : tie.Need-mul-taken
-mul-taken c = search needs
+mul-value : tie.Need-mul-value
+mul-value c = search needs
 
-shared-slice-read-taken : tie.Need-shared-slice-read-taken
-shared-slice-read-taken c = search needs
+shared-slice-read-value : tie.Need-shared-slice-read-value
+shared-slice-read-value c = search needs
 
-mul-taken-2 : tie.Need-mul-taken-2
-mul-taken-2 c = search needs
-
-shared-slice-read-taken-2 : tie.Need-shared-slice-read-taken-2
-shared-slice-read-taken-2 c = search needs
-
-taken-requires : tie.Need-taken-requires
-taken-requires c κs = search needs
+overspent-requires-2 : tie.Need-overspent-requires-2
+overspent-requires-2 c κs = search needs
 
 returns-2 : tie.Need-returns-2
 returns-2 c =
-    let else1 = c .before .before .before in
-    let start = else1 .before .before .before in
-    let p = start .pre in
-    let d = start .args .degree in
-    c .taken .ensures
-    ∙ ap₂ (λ (v s : ℕ). takenFrom v s (start .args .budget))
-    (tabled-is (p .0) d (p .2) ∙ sym (one-mul (factorial d))) (tabled-is (p .1) d (p .2))
-    ∙ some-line 1 d _ (else1 .if1 .left)
+    let else1 = c .before .before .before .before in
+    c .overspent2 .ensures
+    ∙ too-dear 1 _ (start else1 .args .budget) (else1 .if1 .left) _ (cost-is else1) (c .before .if2 .taken)
+
+mul-span : tie.Need-mul-span
+mul-span c = search needs
+
+shared-slice-read-span : tie.Need-shared-slice-read-span
+shared-slice-read-span c = search needs
+
+overspent-requires-3 : tie.Need-overspent-requires-3
+overspent-requires-3 c κs = search needs
+
+returns-3 : tie.Need-returns-3
+returns-3 c =
+    let else2 = c .before .before .before .before in
+    let else1 = else2 .before .before .before in
+    let p = start else1 .pre in
+    c .overspent3 .ensures
+    ∙ too-long 1 _ (start else1 .args .budget) (else1 .if1 .left) _ (cost-is else1) (else2 .if2 .left) _
+    (tabled-is (p .1) _ (p .2)) (c .before .if3 .taken)
+
+returns-4 : tie.Need-returns-4
+returns-4 c =
+    let else3 = c .before .before in
+    let else2 = else3 .before .before .before in
+    let else1 = else2 .before .before .before in
+    let p = start else1 .pre in
+    all-paid 1 _ (start else1 .args .budget) (else1 .if1 .left) _ (cost-is else1) (else2 .if2 .left) _
+    (tabled-is (p .1) _ (p .2)) (else3 .if3 .left)
 
 pub paid-spec : {M : Type 1} → statement M
 paid-spec =
@@ -48,9 +73,12 @@ paid-spec =
     (tie.spec
     overspent-requires
     returns
-    mul-taken
-    shared-slice-read-taken
-    mul-taken-2
-    shared-slice-read-taken-2
-    taken-requires
-    returns-2)
+    mul-value
+    shared-slice-read-value
+    overspent-requires-2
+    returns-2
+    mul-span
+    shared-slice-read-span
+    overspent-requires-3
+    returns-3
+    returns-4)

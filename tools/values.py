@@ -870,7 +870,7 @@ def gathered_told(n, seed):
     for lines, new in some_entries(r, n):
         for some in (lines, gathering.gather(lines, new), gathering.gather([], new)):
             differ = len({tuple(words) for _, *words in some}) == len(some)
-            yield 'different ' + entries_text(some), truth(differ)
+            yield 'distinct ' + entries_text(some), truth(differ)
             yield 'gathered ' + entries_text(some), truth(differ and all(z for z, *_ in some))
         for l, m in zip(lines, new):
             yield 'alike (%s) (%s)' % tuple(entries_text([x])[1:-6] for x in (l, m)), truth(l[1:] == m[1:])
@@ -1087,7 +1087,7 @@ CONSTRUCTORS = {
 LIBRARY = ['div', 'ofInt']  # definitions of lib.Ieee that have to be unfolded
 PASSED_OVER = ['Lib.antt', 'Private.antt', 'Examples.antt', 'Run.antt']
 HIDDEN = [  # asked by no notion, and named as something else is
-    ('text', 'step'), ('theory', 'joined'), ('theory', 'different'), ('pages', 'left')]
+    ('text', 'step'), ('pages', 'left')]
 OWN = """
 abbrev hook : Bool → ℕ → Hook ℕ
 hook minus left = record { minus = minus; leaves = left }

@@ -1,5 +1,6 @@
 /* refusals.c: the refusals in words. */
 #include <inttypes.h>
+#include <stdbool.h>
 #include <stdio.h>
 
 #include "refusals.h"
@@ -51,9 +52,21 @@ static const char *const WAITING_LINES[] = {
 };
 
 /* The number of the refusal, and its words. */
+static void say(uint32_t refused, const char *words)
+{
+    printf("refused %" PRIu32 ": %s\n", refused, words);
+}
+
 void refuse(uint32_t refused)
 {
-    printf("refused %" PRIu32 ": %s\n", refused, REFUSALS[refused]);
+    say(refused, REFUSALS[refused]);
+}
+
+/* A gathered session has coefficients besides, which may not be sound either. */
+void refuse_session(enum zembrusha_mode mode, uint32_t refused)
+{
+    bool coefficients = mode == ZEMBRUSHA_GATHERED && refused == ZEMBRUSHA_NOT_SOUND;
+    say(refused, coefficients ? "slip, page and coefficients are not sound" : REFUSALS[refused]);
 }
 
 /* Refuses input that is not of its form, and says what form it should have. */

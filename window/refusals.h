@@ -9,6 +9,9 @@
 /* Says that something is refused, by the number of zembrusha.h and in words. */
 void refuse(uint32_t refused);
 
+/* The same of a call on a session of this mode. */
+void refuse_session(enum zembrusha_mode mode, uint32_t refused);
+
 /* Refuses input that is not of its form, and says what form it should have. */
 void refuse_input(const char *form);
 

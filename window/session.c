@@ -68,7 +68,7 @@ void strike_cycle(struct session *session, uint64_t line, uint64_t cycle)
         refused = commit(session, line, cycle, strip);
     }
     if (refused != 0) {
-        refuse(refused);
+        refuse_session(session->slip.mode, refused);
     }
 }
 
@@ -96,16 +96,17 @@ static void show_settling(const struct session *session, uint64_t line, uint64_t
         printf("would be added to settled: %" PRId64 "\n", copy.slip.settled - session->slip.settled);
     } else {
         printf("a strike would be ");
-        refuse(refused);
+        refuse_session(session->slip.mode, refused);
     }
 }
 
-/* The waiting line that a hook is joined to, where there is one. */
-static void show_joined(const struct session *session, uint64_t hook)
+/* The waiting line that a hook is joined to, where there is one, and what becomes of it by what the hook brings. */
+static void show_joined(const struct session *session, uint64_t hook, int64_t brought)
 {
     for (uint64_t line = 0; line < session->slip.lines; line++) {
         if (session->page[line] == (hook & INT64_MAX)) {
-            printf(", to line %" PRIu64, line);
+            int64_t sum = session->coefficients[line] + brought;
+            printf(", to line %" PRIu64 ", which becomes %" PRId64 "%s", line, sum, sum == 0 ? " and goes" : "");
         }
     }
 }
@@ -115,9 +116,10 @@ static void show_joined(const struct session *session, uint64_t hook)
 static void show_hook(const struct session *session, uint64_t line, uint64_t hook)
 {
     if (gathered(session)) {
-        printf("would come, times %" PRId64 ": ", session->coefficients[line]);
+        int64_t times = session->coefficients[line];
+        printf("would come, times %" PRId64 ": ", times);
         show_word(hook);
-        show_joined(session, hook);
+        show_joined(session, hook, hook >> 63 == 1 ? -times : times);
     } else {
         printf("would come: ");
         show_word(hook);
@@ -131,7 +133,7 @@ void preview_cycle(const struct session *session, uint64_t line, uint64_t cycle)
     uint64_t strip[ZEMBRUSHA_STRIP_ROOM] = {0};
     struct zembrusha_number previewed = call_preview(session, line, cycle, strip);
     if (previewed.refused != 0) {
-        refuse(previewed.refused);
+        refuse_session(session->slip.mode, previewed.refused);
         return;
     }
     for (uint64_t i = 0; i < previewed.number; i++) {
@@ -209,7 +211,7 @@ static bool may_watch(const struct session *session)
 {
     uint32_t refused = call_watch_refusal(session, ZEMBRUSHA_WAITING, 0);
     if (refused != 0) {
-        refuse(refused);
+        refuse_session(session->slip.mode, refused);
     }
     return refused == 0;
 }

@@ -35,7 +35,7 @@ void save_session(const struct session *session, const char *name)
     }
     struct zembrusha_number saved = call_save(session, text, sizeof text);
     if (saved.refused != 0) {
-        refuse(saved.refused);
+        refuse_session(session->slip.mode, saved.refused);
         return;
     }
     const char *fault = replace_file(name, text, (size_t)saved.number);
@@ -59,7 +59,7 @@ static void load_text(struct session *session, const struct contents *text, cons
     if (loaded.refused == ZEMBRUSHA_BAD_TEXT) {
         refuse_text(mode, loaded.line);
     } else if (loaded.refused != 0) {
-        refuse(loaded.refused);
+        refuse_session(mode, loaded.refused);
     } else {
         say("loaded", name, NULL);
         take_up_session(session, loaded.slip);

@@ -24,7 +24,7 @@ enum zembrusha_refusal {
     ZEMBRUSHA_CLASS_TOO_LARGE = 4,   /* class degree, or that of an old shape, above 16 */
     ZEMBRUSHA_DEGREES_DIFFER = 5,    /* the degrees of shape and class differ */
     ZEMBRUSHA_PAGE_TOO_LONG = 6,     /* page longer than 4,096 words */
-    ZEMBRUSHA_NOT_SOUND = 7,         /* slip and page not sound, or a slip of the other mode */
+    ZEMBRUSHA_NOT_SOUND = 7,         /* slip, page and coefficients not sound, or a slip of the other mode */
     ZEMBRUSHA_NO_SUCH_LINE = 8,      /* no such line */
     ZEMBRUSHA_NO_SUCH_CYCLE = 9,     /* the line's class has no such cycle (0 included) */
     ZEMBRUSHA_PAGE_FULL = 10,        /* opening, commit or load would hold more lines than the page has words */
@@ -33,7 +33,7 @@ enum zembrusha_refusal {
     ZEMBRUSHA_BAD_INPUT = 13,        /* program input not of its form */
     ZEMBRUSHA_COLUMN_TOO_SHORT = 14, /* column shorter than the list, or than the parts to be written */
     ZEMBRUSHA_NO_SUCH_KIND = 15,     /* watch kind not 1 to 5 */
-    ZEMBRUSHA_BAD_TEXT = 16,         /* session's text not of its form: zembrusha_load says at which of its lines */
+    ZEMBRUSHA_BAD_TEXT = 16,         /* a text not of its form; zembrusha_load and zembrusha_gathered_load say where */
     ZEMBRUSHA_BUFFER_TOO_SHORT = 17, /* text buffer too short for the session's text */
     ZEMBRUSHA_STRIP_TOO_SHORT = 18,  /* strip too short for the preview */
     ZEMBRUSHA_NOT_THAT_PREVIEW = 19, /* the strip's front is not the preview of that line and cycle */

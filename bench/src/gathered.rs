@@ -38,7 +38,7 @@ impl Session {
     }
 
     fn gathered(page: &[u64]) -> Session {
-        let column = pages::coefficients();
+        let column = pages::coefficients(page);
         Session { slip: pages::gathered_slip(), page: page.to_vec(), column, strikes: vec![] }
     }
 
@@ -156,4 +156,5 @@ pub fn times(best: impl Fn(u32, &mut dyn FnMut()) -> f64) {
     judging(&best, "judging, mixed", &pages);
     commits(&best, "commit, mixed", &pages, Hooks::New);
     commits(&best, "commit that joins, mixed", &pages, Hooks::Joined);
+    judging(&best, "judging, full chains", &drawn(pages::chained));
 }

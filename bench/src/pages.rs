@@ -2,7 +2,11 @@
 use crate::library::Slip;
 use crate::soundness::{GATHERED, PAGE_LIMIT, PLAIN};
 use crate::{class_word, partitions, shape_word};
+use std::cmp::Reverse;
 use std::collections::HashSet;
+
+// How many chains the library puts the lines of a full page on.
+const CHAINS: usize = 4093;
 
 pub fn slip() -> Slip {
     let (shape, class_word) = (shape_word(&[16]), class_word(&[16]));
@@ -46,15 +50,38 @@ fn all_different(degrees: &[u32], seed: u64) -> Vec<u64> {
     drawn.filter(|&line| known.insert(line)).take(PAGE_LIMIT).collect()
 }
 
-// Coefficients for a full page, from -3 to 3 without 0.
-pub fn coefficients() -> Vec<i64> {
-    (0..PAGE_LIMIT).map(|at| [1, -1, 2, -3, 3, -2, 1][at % 7]).collect()
+// Different lines of degrees 12 and 13 that take the library longest to tell apart, in another order for each seed. It
+// compares each line to those before it on its chain, and words with one remainder are on one chain: these are of the
+// fullest chains.
+pub fn chained(seed: u64) -> Vec<u64> {
+    let mut chains = vec![vec![]; CHAINS];
+    for listing in [12, 13].map(words) {
+        for (shape, class) in listing.iter().flat_map(|one| listing.iter().map(|other| (one.0, other.1))) {
+            let line = u64::from(shape) << 32 | u64::from(class);
+            chains[line as usize % CHAINS].push(line);
+        }
+    }
+    chains.sort_by_key(|chain| Reverse(chain.len()));
+    let mut lines: Vec<u64> = chains.into_iter().flatten().take(PAGE_LIMIT).collect();
+    lines.sort_by_key(|line| line.wrapping_mul((2 * seed + 1).wrapping_mul(0x9E37_79B9_7F4A_7C15)));
+    lines
+}
+
+// Coefficients for a full page, from -3 to 3 without 0; for lines of degree 13, of which 16! has room for few, only
+// signs. The last one of a class word stands at its degree.
+pub fn coefficients(page: &[u64]) -> Vec<i64> {
+    let degree = |line: u64| 31 - (line as u32).trailing_zeros();
+    let all = page.iter().zip([1, -1, 2, -3, 3, -2, 1i64].into_iter().cycle());
+    all.map(|(&line, number)| if degree(line) > 12 { number.signum() } else { number }).collect()
+}
+
+// The shape words and class words of a degree.
+fn words(degree: u32) -> Vec<(u32, u32)> {
+    partitions(degree, degree).into_iter().map(|parts| (shape_word(&parts), class_word(&parts))).collect()
 }
 
 fn drawn_of(degrees: &[u32], seed: u64) -> Vec<u64> {
-    let words = |parts: Vec<u8>| (shape_word(&parts), class_word(&parts));
-    let listing = |&degree: &u32| partitions(degree, degree).into_iter().map(words).collect();
-    let listings: Vec<Vec<(u32, u32)>> = degrees.iter().map(listing).collect();
+    let listings: Vec<Vec<(u32, u32)>> = degrees.iter().map(|&degree| words(degree)).collect();
     let mut state = seed;
     let mut drawn = |below: usize| {
         state = state.wrapping_mul(6_364_136_223_846_793_005).wrapping_add(1_442_695_040_888_963_407);

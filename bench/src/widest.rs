@@ -54,7 +54,10 @@ pub fn table() {
         (plain(shape, class), gathered(shape, class), rows)
     };
     let mut all: Vec<(Taken, Taken, Vec<u8>)> = partitions(16, 16).into_iter().map(both).collect();
-    assert!(all.iter().all(|(plain, gathered, _)| plain.settled == gathered.settled), "the modes differ");
+    for (plain, gathered, rows) in &all {
+        let character = library::character(shape_word(rows), class);
+        assert_eq!([plain.settled, gathered.settled], [character; 2], "the character of {rows:?} on (2^8)");
+    }
     all.sort_by_key(|(plain, _, _)| std::cmp::Reverse(plain.lines));
     for (plain, gathered, rows) in all.iter().take(SHOWN) {
         let parts: Vec<String> = rows.iter().map(u8::to_string).collect();

@@ -65,12 +65,13 @@ def partitions(degree, most):
             for rest in partitions(degree - part, part)]
 
 
-def gathered_page():
-    """A gathered text of 4,096 lines: all shapes on all classes of degree 10, and some of degree 11."""
+def gathered_page(count=4096):
+    """A gathered text of so many different lines, all shapes on all classes of degree 10 and some of degree 11, and the
+    lines that it is taken from."""
     lines = [f'line=2;{shape};{cycles}\n' for degree in (10, 11) for shape in partitions(degree, degree)
              for cycles in partitions(degree, degree)]
-    head = 'mode=gathered\ndegree=16\nshape=16\nclass=16\nsteps=0\nsettled=0\nlines=4096\n'
-    return head + ''.join(lines[:4096]), lines
+    head = 'mode=gathered\ndegree=16\nshape=16\nclass=16\nsteps=0\nsettled=0\nlines=%d\n' % count
+    return head + ''.join(lines[:count]), lines
 
 
 # Texts that are refused: by 16 at this line, or by 10 or 7.
@@ -93,10 +94,11 @@ BAD_GATHERED = {
     9: [gathered('line=-1', 'line=-0'), gathered('line=-1', 'line=9223372036854775808')],
     10: [GATHERED_TEXT[:-1]],
 }
-TOO_MANY = [page_of(4097), page_of(200_000)]
+TOO_MANY = [page_of(4097), page_of(200_000), gathered_page(4097)[0]]
 NOT_SOUND = [changed('line=-;1,1;2', 'line=+;;'), changed('settled=0', 'settled=120'), changed('steps=1', 'steps=207'),
-             changed('class=3,2', 'class=3,1'), changed(';2\n', ';3\n'), gathered('line=2;', 'line=0;'),
-             gathered('line=2;', 'line=-9223372036854775808;'), gathered(';3,1;', ';2,2;')]
+             changed('class=3,2', 'class=3,1'), changed(';2\n', ';3\n')]
+GATHERED_NOT_SOUND = [gathered('line=2;', 'line=0;'), gathered('line=2;', 'line=-9223372036854775808;'),
+                      gathered(';3,1;', ';2,2;')]
 
 # The calls that fail in a save and in a load, and how.
 SAVE_FAILURES = {'malloc': errno.ENOMEM, 'realpath': errno.EIO, 'mkstemp': errno.ENOSPC, 'write': errno.ENOSPC,
@@ -222,6 +224,7 @@ def refuse_texts(desk):
              for line, texts in bad.items() for text in texts]
     cases += [('refused 10: the page has no room for so many lines', text) for text in TOO_MANY]
     cases += [('refused 7: slip and page are not sound', text) for text in NOT_SOUND]
+    cases += [('refused 7: slip, page and coefficients are not sound', text) for text in GATHERED_NOT_SOUND]
     for refusal, text in cases:
         desk.write('friday', text)
         for begun in BEGUN, GATHERED_BEGUN:
@@ -279,8 +282,9 @@ def fill_gathered_page(desk):
     same(desk.read('friday'), text, 'the text of a full gathered page')
     met = [lines.index(f'line=2;{shape};10\n') for shape in ('8,2', '9,1')]
     same(desk.after(loaded, [f'preview {joined} 1'])[:3],
-         [f'would come, times 2: + (8,2) on (10), to line {met[0]}',
-          f'would come, times 2: + (9,1) on (10), to line {met[1]}', 'would be added to settled: 0'], 'joined hooks')
+         [f'would come, times 2: + (8,2) on (10), to line {met[0]}, which becomes 4',
+          f'would come, times 2: + (9,1) on (10), to line {met[1]}, which becomes 4', 'would be added to settled: 0'],
+         'joined hooks')
     struck = desk.after(loaded, [f'strike {joined} 1'])
     same([len(struck), *(struck[1 + line] for line in met)],
          [1 + 4095, f'line {met[0]}: 4 (8,2) on (10), strike 10', f'line {met[1]}: 4 (9,1) on (10), strike 10'],

@@ -9,7 +9,7 @@ use native.Mathlib.Omega.{arith}
 use borrow.Author.Tests.{eq-eqb, ne-eqb}
 use lib.ListN.{set, length-append, length-drop, length-replicate, drop-of-length-le}
 use lib.Seq.{take-take, take-set-lt, take-suc-set, drop-set-lt, drop-cons, append-snoc, getD-take, set-split}
-use lib.Seq.{length-take-le, drop-length, take-at, drop-append-add, sets, sets-eq}
+use lib.Seq.{length-take-le, take-at, drop-append-add, sets, sets-eq}
 use Rattle.theory.specs.Basics.{Bool, true, false, List, [], _∷_, _++_, length, getD, take, drop, replicate, ℕ, zero, suc, _+_, _-_}
 use Rattle.theory.specs.Basics.{same}
 use Rattle.theory.specs.Basics.Laws.{Each}
@@ -30,9 +30,6 @@ drop-zeros (suc k) zero =
 drop-zeros (suc k) (suc n) =
     let e : suc n - suc k ≡ n - k = omega arith in
     rw e (drop-zeros k n)
-
-pub cleared : (page : List ℕ) (i : ℕ) → i ≡ length page → replicate i 0 ++ drop i page ≡ replicate (length page) 0
-cleared page i e = rw (e, drop-length page, append-nil)
 
 -- ---- a line taken out
 module _ (page : List ℕ) (i lines : ℕ) (fit : lines ≤ length page) where

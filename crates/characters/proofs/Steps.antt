@@ -11,8 +11,8 @@ use Rattle.theory.specs.Refusals.{Check, firstOf, no-8, no-9}
 use Rattle.theory.specs.Refusals.Laws.{first-refuses, first-passes, or-refused, answer-number, answer-given}
 use Rattle.pages.specs.Line.{Line}
 use Rattle.pages.specs.declared.Slip.{Slip}
-use Rattle.pages.specs.Page.{lineOf, waiting, lineAt}
-use Rattle.pages.specs.Mode.{plainMode}
+use Rattle.pages.specs.Page.{lineOf, lineAt}
+use Rattle.pages.specs.Mode.{plainMode, waiting}
 use Rattle.pages.specs.Sound.{pageChecks}
 use Rattle.pages.specs.Lawful.Plain.{plain-lawful}
 use Rattle.pages.proofs.SoundPages.{line-word}

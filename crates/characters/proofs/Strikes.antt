@@ -24,9 +24,9 @@ use Rattle.words.proofs.Factorials.{factorial-fits}
 use Rattle.pages.specs.Line.{Line}
 use Rattle.pages.specs.Line.Weights.{weightOf}
 use Rattle.pages.specs.declared.Slip.{Slip}
-use Rattle.pages.specs.Page.{lineOf, wordOf, waiting, lineAt, padded, slipOf}
+use Rattle.pages.specs.Page.{lineOf, wordOf, lineAt, padded, slipOf}
 use Rattle.pages.specs.Page.Words.{map-take, map-drop, front-read}
-use Rattle.pages.specs.Mode.{plainMode}
+use Rattle.pages.specs.Mode.{plainMode, waiting}
 use Rattle.pages.specs.Lawful.Plain.{plain-lawful}
 use Rattle.pages.specs.Sound.Laws.{line-wider, asked, sound-zeros}
 use Rattle.pages.specs.Sound.Bounds.{asked-within}
@@ -244,7 +244,7 @@ module _ (limit : ℕ) (small : limit ≤ largestLimit) (slip : Slip) (page : Li
       arith,
       k .count,
       length-map (waitingHooks cycle chosen) wordOf,
-      next-length limit slip lines line cycle (k .on .named),
+      next-length lines line cycle (k .on .named .there),
       length-map (take (slip .lines) page) lineOf,
       length-take-le (slip .lines) page (k .on .soundness .fit),
     )

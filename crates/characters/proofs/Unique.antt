@@ -11,6 +11,7 @@ use Rattle.characters.proofs.character.Reads as character
 use Rattle.characters.proofs.character_degree.Reads as character-degree
 use Rattle.characters.proofs.column.Reads as column
 use Rattle.characters.proofs.sessions.open.Reads as open-session
+use Rattle.characters.proofs.sessions.kind_refusal.Reads as kind-refusal
 use Rattle.characters.proofs.sessions.page_refusal.Reads as page-refusal
 use Rattle.characters.proofs.sessions.preview.Reads as preview-session
 use Rattle.characters.proofs.sessions.commit.Reads as commit-session
@@ -48,6 +49,10 @@ pub commit-once : (κs : _) (a : _) (r r′ : _) (s s′ : _) → commit-session
     → commit-session.Post κs a r′ s′ → (r ≡ r′) × (now (s .1 .0) ≡ now (s′ .1 .0))
 commit-once κs a r r′ s s′ p q =
     one-outcome (commit degreeLimit (a .0) (now (a .1 .0)) (a .1 .1 .0) (a .1 .1 .1 .0) (now (a .1 .1 .1 .1 .0))) p q
+
+pub kind-refusal-once : (κs : _) (a : _) (r r′ : _) (s s′ : _) → kind-refusal.Post κs a r s
+    → kind-refusal.Post κs a r′ s′ → r ≡ r′
+kind-refusal-once κs a r r′ s s′ p q = p ∙ sym q
 
 pub watch-once : (κs : _) (a : _) (r r′ : _) (s s′ : _) → watch-session.Post κs a r s → watch-session.Post κs a r′ s′
     → r ≡ r′

@@ -13,7 +13,7 @@ use Rattle.theory.specs.Bounds.Laws.{largestLimit}
 use Rattle.theory.specs.ShapeWord.{shapeOf}
 use Rattle.theory.specs.ShapeWord.Good.{good-shape}
 use Rattle.theory.specs.Character.{characterDegree}
-use Rattle.theory.specs.Refusals.{Check, firstOf, shapeChecks, no-8, no-15}
+use Rattle.theory.specs.Refusals.{Check, firstOf, shapeChecks, no-8}
 use Rattle.theory.specs.Refusals.Laws.{both-pass, first-refuses, first-passes, or-refused, or-given, shape-passes}
 use Rattle.words.specs.Answers.{numberAnswer}
 use Rattle.words.specs.declared.NumberAnswer.{NumberAnswer}
@@ -30,15 +30,40 @@ use Rattle.pages.specs.Lawful.{Lawful}
 use Rattle.pages.specs.Lawful.Checks.{numbered-page, passed-page}
 use Rattle.pages.proofs.Signed.{carried, carried-is}
 use Rattle.characters.specs.Calls.{shapeCharacterDegree}
-use Rattle.characters.specs.Watch.{Value, none, ratio, shownIn, watchChecksIn, watchIn}
+use Rattle.characters.specs.Watch.{Value, none, ratio, kindChecks, shownIn, watchChecksIn, watchIn}
 use Rattle.characters.specs.Watch.Ratios.{ratioLimit, Exact, line-exact}
 use Rattle.characters.proofs.LineValues.{word-value}
 
+-- ---- why a kind and a line are refused
+module _ (kind lines line : ℕ) where
+  abbrev asks : ℕ
+  asks = firstOf (kindChecks kind lines line)
+
+  pub kind-zero : kind ≡ 0 → 15 ≡ asks
+  kind-zero z = sym (rw (lt-leb 1 kind (omega arith)))
+
+  module _ (some : kind ≡ 0 → ⊥) where
+    pub kind-above : 5 < kind → 15 ≡ asks
+    kind-above above = sym (rw (le-leb 1 kind (omega arith), lt-leb kind 5 above))
+
+    module _ (within : kind ≤ 5) where
+      kind-passes : asks ≡ firstOf (cond (kind ≤? 2) (no-8 lines line ∷ []) [])
+      kind-passes = rw (le-leb 1 kind (omega arith), le-leb kind 5 within)
+
+      pub line-unasked : 2 < kind → 0 ≡ asks
+      line-unasked above = sym (kind-passes ∙ rw (lt-leb kind 2 above))
+
+      module _ (of-line : kind ≤ 2) where
+        pub line-missing : lines ≤ line → 8 ≡ asks
+        line-missing l = sym (kind-passes ∙ rw (le-leb kind 2 of-line, le-leb lines line l))
+
+        pub line-there : line < lines → 0 ≡ asks
+        line-there l = sym (kind-passes ∙ rw (le-leb kind 2 of-line, lt-leb lines line l))
+
+-- ---- why a watch is refused
 module _ {m : Mode} (law : Lawful m) (limit : ℕ) (slip : Slip) (x : m .Lent) (kind line : ℕ) where
-  -- ---- why a watch is refused
-  -- the checks behind those of slip and page
   abbrev behind : List Check
-  behind = no-15 kind ∷ cond (kind ≤? 2) (no-8 (slip .lines) line ∷ []) []
+  behind = kindChecks kind (slip .lines) line
 
   abbrev first : ℕ
   first = firstOf (watchChecksIn m limit slip x kind line)
@@ -46,30 +71,9 @@ module _ {m : Mode} (law : Lawful m) (limit : ℕ) (slip : Slip) (x : m .Lent) (
   pub page-first : (k : ℕ) → k ≡ firstOf (pageChecksIn m limit slip x) → (k ≡ 0 → ⊥) → k ≡ first
   page-first k e some = e ∙ sym (first-refuses (pageChecksIn m limit slip x) behind (λ z. some (e ∙ z)))
 
-  module _ (clear : firstOf (pageChecksIn m limit slip x) ≡ 0) where
-    passes : first ≡ firstOf behind
-    passes = first-passes (pageChecksIn m limit slip x) behind (numbered-page law limit slip x) clear
-
-    pub kind-zero : kind ≡ 0 → 15 ≡ first
-    kind-zero z = sym (passes ∙ rw (lt-leb 1 kind (omega arith)))
-
-    module _ (some : kind ≡ 0 → ⊥) where
-      pub kind-above : 5 < kind → 15 ≡ first
-      kind-above above = sym (passes ∙ rw (le-leb 1 kind (omega arith), lt-leb kind 5 above))
-
-      module _ (within : kind ≤ 5) where
-        kind-passes : first ≡ firstOf (cond (kind ≤? 2) (no-8 (slip .lines) line ∷ []) [])
-        kind-passes = passes ∙ rw (le-leb 1 kind (omega arith), le-leb kind 5 within)
-
-        pub line-unasked : 2 < kind → 0 ≡ first
-        line-unasked above = sym (kind-passes ∙ rw (lt-leb kind 2 above))
-
-        module _ (of-line : kind ≤ 2) where
-          pub line-missing : slip .lines ≤ line → 8 ≡ first
-          line-missing l = sym (kind-passes ∙ rw (le-leb kind 2 of-line, le-leb (slip .lines) line l))
-
-          pub line-there : line < slip .lines → 0 ≡ first
-          line-there l = sym (kind-passes ∙ rw (le-leb kind 2 of-line, lt-leb (slip .lines) line l))
+  pub kind-first : (k : ℕ) → k ≡ firstOf behind → firstOf (pageChecksIn m limit slip x) ≡ 0 → k ≡ first
+  kind-first k e clear =
+      e ∙ sym (first-passes (pageChecksIn m limit slip x) behind (numbered-page law limit slip x) clear)
 
   -- ---- the watch
   abbrev Shows : ℕ → Value → Type 0
@@ -91,11 +95,11 @@ module _ {m : Mode} (law : Lawful m) (limit : ℕ) (slip : Slip) (x : m .Lent) (
   unfolding watchIn
   watching k e z =
       let pass : first ≡ 0 = sym e ∙ z in
-      let clear = both-pass (pageChecksIn m limit slip x) behind (numbered-page law limit slip x) pass .0 in
-      let some : kind ≡ 0 → ⊥ = λ none. omega (arith, kind-zero clear none) in
+      let (clear, asked) = both-pass (pageChecksIn m limit slip x) behind (numbered-page law limit slip x) pass in
+      let some : kind ≡ 0 → ⊥ = λ none. omega (arith, kind-zero kind (slip .lines) line none) in
       let within : kind ≤ 5 = elim (decLe kind 5) [
         | yes l ↦ l
-        | no f ↦ absurd (omega (arith, kind-above clear some (omega arith)))
+        | no f ↦ absurd (omega (arith, kind-above kind (slip .lines) line some (omega arith)))
       ] in
       let (lent, soundness) = passed-page law limit slip x clear in
       record {
@@ -105,7 +109,7 @@ module _ {m : Mode} (law : Lawful m) (limit : ℕ) (slip : Slip) (x : m .Lent) (
         within = within;
         there = λ of-line. elim (decLt line (slip .lines)) [
           | yes l ↦ l
-          | no f ↦ absurd (omega (arith, line-missing clear some within of-line (omega arith)))
+          | no f ↦ absurd (omega (arith, line-missing kind (slip .lines) line some within of-line (omega arith)))
         ];
         shows = sym (or-given {A = ℕ × Value} (λ k. (k, none)) _ first pass);
       }

@@ -2,7 +2,7 @@
 -- document 02, P6: slip and line have the good word of the shape; P7, "an opening gives its line coefficient 1").
 --   handed k slip      a slip with the refusal number k beside it
 --   firstLines s c     one line of weight 1, none at degree 0; firstSettled s, 1 at degree 0, else 0
---   openingIn m ..     what an opening answers in the mode m, by openingChecksIn, and what it leaves of what it was lent
+--   openingIn m ..     what an opening answers in the mode m, by openingChecksIn, and what it leaves of what is lent
 --   opening ..         the same in the plain mode, and the page that it leaves; openingChecks
 use Rattle.theory.specs.Basics.{cond, List, [], _∷_, _++_, length, ℕ, ℤ, pos, _=?_}
 use Rattle.theory.specs.Partition.{degree}

@@ -1,14 +1,14 @@
 -- A step in its two halves (document 01, "A step names a line and a cycle"; document 02, P3, "Preview apart from
--- commit"; P7, "Each hook brings the chosen line's coefficient times its own sign"; a refused commit hands back the slip
--- that it was given), in a mode m; without `In`, in the plain mode.
+-- commit"; P7, "Each hook brings the chosen line's coefficient times its own sign"; a refused commit hands back the
+-- slip that it was given), in a mode m; without `In`, in the plain mode.
 --   settledHooks cycle l     the hook lines of l that have the empty shape; waitingHooks cycle l, the others
 --   nextLinesIn m lines i c  line i is taken out, later lines move down, its hook lines that wait come to the others
---   nextSlipIn m s lines i c the weights of its hooks that leave the empty shape are added to settled, steps rise by one
+--   nextSlipIn m s lines i c the weights of its hooks that leave the empty shape come to settled, steps rise by one
 --   namedChecksIn ..         the checks of a line and a cycle that are named
 --   newLinesIn ..            the new lines of a named line and cycle, in hook order, as a strip has them
 --   previewIn ..             what a preview answers, and the strip that it leaves
 --   commitChecksIn ..        the checks of a commit, by the strip that it is handed
---   finishedIn m k ..        refused with the number k, or for 0 the slip after the step, and what it leaves of what is lent
+--   finishedIn m k ..        refused with the number k, or for 0 the slip after the step, and what is lent after it
 --   commitIn ..              what a commit answers, and what it leaves of what is lent
 use Rattle.theory.specs.Basics.{Bool, not, List, [], _∷_, _++_, map, length, take, drop, ℕ, suc, pos, _+ℤ_, _=?_, keep}
 use Rattle.theory.specs.Basics.{sum}
@@ -64,7 +64,8 @@ module _ (m : Mode) where
   abbrev pub commitChecksIn : ℕ → Slip → m .Lent → ℕ → ℕ → List ℕ → List Check
   commitChecksIn limit slip x line cycle strip =
       namedChecksIn limit slip x line cycle
-      ++ no-19 (newLinesIn slip x line cycle) strip ∷ no-10 (nextLinesIn (waitingIn m slip x) line cycle) (m .page x) ∷ []
+      ++ no-19 (newLinesIn slip x line cycle) strip
+      ∷ no-10 (nextLinesIn (waitingIn m slip x) line cycle) (m .page x) ∷ []
 
   abbrev pub finishedIn : ℕ → Slip → m .Lent → ℕ → ℕ → Handed × m .Lent
   finishedIn k slip x line cycle =

@@ -4,7 +4,8 @@
 --   reads answer        for each case of the answer, document 01's refusal number, 0 for none, and value
 --   ratio l             signed character by character degree, in one 64-bit division of exact numbers
 --   shownIn m s ls i k  what kind k shows of slip s, its lines ls and the line numbered i
---   watchIn ..          the refusal number and the value that a watch gives, by watchChecksIn; 3 to 5 ignore the line
+--   kindChecks k n i    the checks of kind k and line i where n lines wait; kinds 3 to 5 ignore the line
+--   watchIn ..          the refusal number and the value that a watch gives, by watchChecksIn
 use lib.Ieee.{Float, binary64, ofInt, div}
 use Rattle.theory.specs.Basics.{cond, List, [], _∷_, _++_, ℕ, zero, suc, ℤ, _≤?_, sum}
 use Rattle.theory.specs.ShapeWord.{shapeOf}
@@ -33,6 +34,9 @@ reads (Refused k) = (k, none)
 unfoldable pub ratio : Line → Float
 ratio l = div binary64 (ofInt binary64 (signedCharacter l)) (ofInt binary64 (characterDegree (shapeOf (l .shape))))
 
+abbrev pub kindChecks : ℕ → ℕ → ℕ → List Check
+kindChecks kind lines line = no-15 kind ∷ cond (kind ≤? 2) (no-8 lines line ∷ []) []
+
 -- ---- in any mode
 module _ (m : Mode) where
   unfoldable pub shownIn : Slip → List Line → ℕ → ℕ → Value
@@ -46,7 +50,7 @@ module _ (m : Mode) where
 
   abbrev pub watchChecksIn : ℕ → Slip → m .Lent → ℕ → ℕ → List Check
   watchChecksIn limit slip x kind line =
-      pageChecksIn m limit slip x ++ no-15 kind ∷ cond (kind ≤? 2) (no-8 (slip .lines) line ∷ []) []
+      pageChecksIn m limit slip x ++ kindChecks kind (slip .lines) line
 
   unfoldable pub watchIn : ℕ → Slip → m .Lent → ℕ → ℕ → ℕ × Value
   watchIn limit slip x kind line =

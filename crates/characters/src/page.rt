@@ -2,19 +2,8 @@
 ghost use mathlib.Core.Path.{_≡_};
 ghost use Prim.Native.Nat.{_+_, _<_, _≤_};
 ghost use lib.Seq.{sets};
-ghost use Rattle.theory.specs.Basics.{length, take, replicate, same};
+ghost use Rattle.theory.specs.Basics.{length, take, same};
 ghost use Rattle.characters.specs.Private.Pages.{Exchanges, exchanged, takenOut};
-
-// Every word becomes 0.
-pub fn clear(page: &mut [u64])
-    ensures { λ _. ⌜ now (page .exit) ≡ replicate (length (now (page .entry))) 0 ⌝ }
-{
-    let mut at = 0;
-    while at < page.len() {
-        page[at] = 0;
-        at += 1;
-    }
-}
 
 // A line is taken out, later lines move down by one, and the word that is freed becomes 0.
 fn take_out(page: &mut [u64], line: usize, lines: usize)

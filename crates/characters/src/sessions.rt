@@ -13,7 +13,7 @@ ghost use Rattle.pages.specs.Sound.{pageChecks};
 ghost use Rattle.pages.specs.Sound.Laws.{SoundLine};
 ghost use Rattle.characters.specs.Opening.{handed, opening};
 ghost use Rattle.characters.specs.Step.{preview as previewOf, commit as commitOf};
-ghost use Rattle.characters.specs.Watch.{reads, ratio as ratioOf, watchChecks, watch as watchOf};
+ghost use Rattle.characters.specs.Watch.{reads, ratio as ratioOf, kindChecks, watchChecks, watch as watchOf};
 ghost use Rattle.characters.specs.Private.ClassLeft.{classLeftOf};
 ghost use Rattle.characters.specs.Private.Struck.{struckOnto};
 use super::Handed;
@@ -22,9 +22,11 @@ use super::character_degree;
 use super::evaluation;
 use super::lines;
 use super::page;
+use pages::BLANK;
 use pages::PAGE_LIMIT;
 use pages::PLAIN;
 use pages::Slip;
+use pages::clearing;
 use pages::pairs;
 use pages::soundness;
 use words::CountAnswer;
@@ -50,14 +52,7 @@ fn unopened(number: u8) -> Handed
 {
     Handed {
         refused: number,
-        slip: Slip {
-            shape: 0,
-            class: 0,
-            settled: 0,
-            lines: 0,
-            steps: 0,
-            mode: PLAIN,
-        },
+        slip: BLANK,
     }
 }
 
@@ -75,7 +70,7 @@ pub fn open(shape: u32, class: u32, page: &mut [u64]) -> Handed
         return unopened(6);
     }
     if pair.degree == 0 {
-        page::clear(page);
+        clearing::words(page, 0);
         return Handed {
             refused: 0,
             slip: Slip {
@@ -91,7 +86,7 @@ pub fn open(shape: u32, class: u32, page: &mut [u64]) -> Handed
     if page.len() == 0 {
         return unopened(10);
     }
-    page::clear(page);
+    clearing::words(page, 0);
     page[0] = pages::lines::word(false, good, class);
     Handed {
         refused: 0,
@@ -241,14 +236,11 @@ pub fn commit(slip: Slip, page: &mut [u64], line: usize, cycle: u64, strip: &[u6
     }
 }
 
-// Why a watch is refused, 0 where it is not: 6, 7, 15, 8; kinds 3 to 5 ignore the line number.
-fn watch_refusal(slip: Slip, page: &[u64], kind: u64, line: usize) -> u8
-    ensures { λ r. ⌜ r ≡ firstOf (watchChecks degreeLimit slip (now (page .entry)) kind line) ⌝ }
+// Why a kind and a line are refused where so many lines wait, 0 where they are not: 15, 8; kinds 3 to 5 ignore the line
+// number.
+pub fn kind_refusal(kind: u64, lines: usize, line: usize) -> u8
+    ensures { λ r. ⌜ r ≡ firstOf (kindChecks kind lines line) ⌝ }
 {
-    let refused = page_refusal(slip, page);
-    if refused != 0 {
-        return refused;
-    }
     if kind == 0 {
         return 15;
     }
@@ -258,10 +250,21 @@ fn watch_refusal(slip: Slip, page: &[u64], kind: u64, line: usize) -> u8
     if 2 < kind {
         return 0;
     }
-    if slip.lines <= line {
+    if lines <= line {
         return 8;
     }
     0
+}
+
+// Why a watch is refused, 0 where it is not: 6, 7, 15, 8.
+fn watch_refusal(slip: Slip, page: &[u64], kind: u64, line: usize) -> u8
+    ensures { λ r. ⌜ r ≡ firstOf (watchChecks degreeLimit slip (now (page .entry)) kind line) ⌝ }
+{
+    let refused = page_refusal(slip, page);
+    if refused != 0 {
+        return refused;
+    }
+    kind_refusal(kind, slip.lines, line)
 }
 
 // One division of two numbers that are carried over without loss.

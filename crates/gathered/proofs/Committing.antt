@@ -27,9 +27,9 @@ use Rattle.pages.specs.Line.Weights.{weightOf}
 use Rattle.pages.specs.declared.Slip.{Slip}
 use Rattle.pages.specs.Page.{lineOf, wordOf, lineAt, slipOf}
 use Rattle.pages.specs.Mode.{weighted, unit, gatheredMode, waitingIn}
-use Rattle.pages.specs.Gathering.{lasting, different}
+use Rattle.pages.specs.Gathering.{lasting, distinct}
 use Rattle.pages.specs.Lawful.Checks.{numbered-page, passed-page}
-use Rattle.pages.specs.Lawful.Gathered.{as-long, length-alongside, gathered-lawful}
+use Rattle.pages.specs.Lawful.Gathered.{as-long, length-alongside, alongside-at, gathered-lawful}
 use Rattle.pages.specs.Sound.{lineValue, pageChecksIn}
 use Rattle.pages.specs.Sound.Laws.{SoundLine, SoundIn, line-wider, asked, values}
 use Rattle.pages.specs.Sound.Bounds.{asked-within}
@@ -40,9 +40,9 @@ use Rattle.characters.specs.Step.{settledHooks, waitingHooks, nextLinesIn, next
 use Rattle.characters.specs.Step.Named.{Named, settled-room}
 use Rattle.gathered.specs.declared.commits.Struck.{Struck}
 use Rattle.gathered.specs.declared.joining.Joined.{Joined}
-use Rattle.gathered.specs.Private.Joining.{Small, nextOf, joined, Joinable, joinedOnto}
+use Rattle.gathered.specs.Private.Joining.{Small, nextOf, joinedAnswer, Joinable, joinedOnto}
 use Rattle.gathered.specs.Private.Striking.{struckChecks, Hooked, Strikes}
-use Rattle.gathered.proofs.LineSizes.{alongside-at, value-within, size-counted, small-beside}
+use Rattle.gathered.proofs.LineSizes.{value-within, size-counted, small-beside}
 use Rattle.gathered.proofs.HookWeights.{different-waiting, waiting-sizes, lasting-waiting, unlike-waiting}
 
 module _ (slip : Slip) (page : List ℕ) (column : List ℤ) (line cycle : ℕ) (strip : List ℕ) where
@@ -208,12 +208,12 @@ module _ (slip : Slip) (page : List ℕ) (column : List ℤ) (line cycle : ℕ) 
 
           lasts : lasting l ≡ true
           lasts = at-line (λ y. lasting y ≡ true)
-              (every-each lasting lines (both (different lines) (every lasting lines) (soundness .stands) .1))
+              (every-each lasting lines (both (distinct lines) (every lasting lines) (soundness .stands) .1))
 
           pub joinable : Joinable page column line (slip .lines) hook-words hook-weights
           joinable =
               let s = strikable .0 in
-              let b = both (different lines) (every lasting lines) (soundness .stands) in
+              let b = both (distinct lines) (every lasting lines) (soundness .stands) in
               record {
                 there = there;
                 fit = soundness .fit;
@@ -270,7 +270,7 @@ module _ (slip : Slip) (page : List ℕ) (column : List ℤ) (line cycle : ℕ) 
 
           -- ---- what is left
           abbrev joins : Bool → Joined × (List ℕ × List ℤ)
-          joins b = cond b (joined true 0, lent) (joined false (length next), gatheredMode .put next lent)
+          joins b = cond b (joinedAnswer true 0, lent) (joinedAnswer false (length next), gatheredMode .put next lent)
 
           module _ {j : Joined} {left : List ℕ × List ℤ}
               (o : Outcome (joinedOnto page column line (slip .lines) hook-words hook-weights) j left) where

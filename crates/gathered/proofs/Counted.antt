@@ -18,7 +18,7 @@ use Rattle.theory.specs.Basics.Keep.{every-each, keep-append, keep-same}
 use Rattle.pages.specs.Line.{Line}
 use Rattle.pages.specs.Page.{lineOf, lineAt}
 use Rattle.pages.specs.Page.Words.{map-take, map-drop}
-use Rattle.pages.specs.Gathering.{alike, weighing, lasting, gather, different}
+use Rattle.pages.specs.Gathering.{alike, weighing, lasting, gather, distinct}
 use Rattle.pages.specs.Gathering.Different.{Unlike, alike-alike, alike-back, first-unlike, rest-different}
 use Rattle.pages.specs.Gathering.Different.{coefficient-none, different-others}
 use Rattle.pages.specs.Gathering.AtOnce.{bring, isNew, gathered-at-once}
@@ -45,7 +45,7 @@ abbrev stays : List Line → Line → ℕ
 stays hs l = length (keep lasting (bring hs l ∷ []))
 
 module _ (l : Line) (lines : List Line) (lasts : lasting l ≡ true) (others : Each (Unlike l) lines) where
-  one-line : (hs : List Line) → different hs ≡ true
+  one-line : (hs : List Line) → distinct hs ≡ true
       → spared (l ∷ lines) hs + news (l ∷ lines) hs + stays hs l ≡ spared lines hs + news lines hs + 1
   unfolding spares
   one-line [] d = rw (+ℤ-idr (l .weight), lasts)
@@ -105,7 +105,7 @@ unfolding spares
 nothing-spared [] = refl
 nothing-spared (h ∷ hs) = omega (arith, nothing-spared hs)
 
-pub counted : (lines hs : List Line) → different lines ≡ true → Each (λ l. lasting l ≡ true) lines → different hs ≡ true
+pub counted : (lines hs : List Line) → distinct lines ≡ true → Each (λ l. lasting l ≡ true) lines → distinct hs ≡ true
     → length (keep lasting (map (bring hs) lines)) + (spared lines hs + news lines hs) ≡ length lines + length hs
 counted [] hs d last e = rw (nothing-spared hs) refl
 counted (l ∷ lines) hs d last e =
@@ -169,7 +169,7 @@ module _ (lines hs : List Line) (i : ℕ) (there : i < length lines) where
         length-append (keep lasting first) (keep lasting later),
       )
 
-  module _ (apart : different lines ≡ true) (last : every lasting lines ≡ true) (different-hooks : different hs ≡ true)
+  module _ (apart : distinct lines ≡ true) (last : every lasting lines ≡ true) (different-hooks : distinct hs ≡ true)
       (lasting-hooks : every lasting hs ≡ true) (unlike-struck : Each (Unlike struck) hs) where
     pub new-same : keep (isNew lines) hs ≡ keep (isNew rest) hs
     new-same = keep-same (Unlike struck) (isNew lines) (isNew rest) hs (λ h. new-others lines i h there) unlike-struck

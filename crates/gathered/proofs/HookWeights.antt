@@ -28,7 +28,7 @@ use Rattle.pages.specs.Line.Weights.{weightOf}
 use Rattle.pages.specs.Page.{lineOf, wordOf}
 use Rattle.pages.specs.Page.Words.{line-read}
 use Rattle.pages.specs.Mode.{unit}
-use Rattle.pages.specs.Gathering.{alike, lasting, different}
+use Rattle.pages.specs.Gathering.{alike, lasting, distinct}
 use Rattle.pages.specs.Gathering.Different.{Unlike, one-more, different-none, different-keep}
 use Rattle.pages.specs.Sound.Laws.{SoundLine}
 use Rattle.characters.specs.Step.{empty, settledHooks, waitingHooks}
@@ -143,7 +143,7 @@ module _ {n : ℕ} (cycle : ℕ) (l : Line) (s : SoundLine n l) (has : Has cycle
 
   -- ---- no two are equal
   different-lines : (hooks : List (Hook ℕ)) → Apart (map (λ hook. hook .leaves) hooks)
-      → different (map (hookLine cycle l) hooks) ≡ true
+      → distinct (map (hookLine cycle l) hooks) ≡ true
   different-lines [] apart = different-none
   different-lines (hook ∷ hooks) apart =
       one-more (hookLine cycle l hook) (map (hookLine cycle l) hooks) (others hooks (apart .0))
@@ -154,7 +154,7 @@ module _ {n : ℕ} (cycle : ℕ) (l : Line) (s : SoundLine n l) (has : Has cycle
       others [] each = tt
       others (h ∷ more) each = (rw (ne-eqb (hook .leaves) (h .leaves) (each .0)) refl, others more (each .1))
 
-  pub different-waiting : different (waitingHooks cycle l) ≡ true
+  pub different-waiting : distinct (waitingHooks cycle l) ≡ true
   unfolding hookLines
   different-waiting =
       different-keep (λ h. not (empty h)) (hookLines cycle l)

@@ -19,7 +19,7 @@ use Rattle.words.specs.Answers.{Outcome}
 use Rattle.pages.specs.Line.{Line}
 use Rattle.pages.specs.Page.{padded}
 use Rattle.pages.specs.Mode.{weighted, alongside, unit, gatheredMode}
-use Rattle.pages.specs.Gathering.{alike, weighing, lasting, different}
+use Rattle.pages.specs.Gathering.{alike, weighing, lasting, distinct}
 use Rattle.pages.specs.Gathering.Different.{Unlike, unlike, alike-alike, alike-back, first-unlike, rest-different}
 use Rattle.pages.specs.Gathering.Different.{coefficient-none}
 use Rattle.pages.specs.Gathering.AtOnce.{bring, isNew, all-unchanged, bring-more}
@@ -81,7 +81,7 @@ module _ (y : ℕ) (w : ℤ) where
       go false l = omega arith
 
   -- the weight is added at the place, and nowhere else
-  pub raised-one : (xs : List ℕ) (zs : List ℤ) → length xs ≡ length zs → different (alongside xs zs) ≡ true
+  pub raised-one : (xs : List ℕ) (zs : List ℤ) → length xs ≡ length zs → distinct (alongside xs zs) ≡ true
       → alongside xs (set zs (place xs y) (getD zs (place xs y) (pos 0) +ℤ w)) ≡ map (bring (hook ∷ []))
       (alongside xs zs)
   unfolding place
@@ -135,14 +135,14 @@ every-brought : (test : Line → Bool) → ((z : ℤ) (l : Line) → test (weigh
 every-brought test plain hs [] = refl
 every-brought test plain hs (l ∷ lines) = ap₂ _&&_ (plain _ l) (every-brought test plain hs lines)
 
-different-bring : (hs lines : List Line) → different (map (bring hs) lines) ≡ different lines
-unfolding different
+different-bring : (hs lines : List Line) → distinct (map (bring hs) lines) ≡ distinct lines
+unfolding distinct
 different-bring hs [] = refl
 different-bring hs (l ∷ lines) =
     ap₂ _&&_ (every-brought (unlike l) (λ z m. refl) hs lines) (different-bring hs lines)
 
 pub raised-all : (xs : List ℕ) (ys : List ℕ) (ws zs : List ℤ) → length xs ≡ length zs
-    → different (alongside xs zs) ≡ true
+    → distinct (alongside xs zs) ≡ true
     → alongside xs (raised zs (map (place xs) ys) ws) ≡ map (bring (alongside ys ws)) (alongside xs zs)
 unfolding raised
 raised-all xs [] ws zs e d = sym (all-unchanged [] (alongside xs zs) (each-member _ (alongside xs zs) (λ l m. refl)))
@@ -153,7 +153,7 @@ raised-all xs (y ∷ ys) (w ∷ ws) zs e d =
     let now : List ℤ = set zs (place xs y) (getD zs (place xs y) (pos 0) +ℤ w) in
     let one = raised-one y w xs zs e d in
     raised-all xs ys ws now (e ∙ sym (length-set zs (place xs y) _))
-    (ap different one ∙ different-bring (h ∷ []) (alongside xs zs) ∙ d)
+    (ap distinct one ∙ different-bring (h ∷ []) (alongside xs zs) ∙ d)
     ∙ ap (map (bring (alongside ys ws))) one
     ∙ map-map (bring (alongside ys ws)) (bring (h ∷ [])) (alongside xs zs)
     ∙ map-same (λ l. Unit {0}) _ _ (alongside xs zs) (λ l t. bring-more h (alongside ys ws) l)
@@ -217,7 +217,7 @@ struck-kept (x ∷ xs) (u ∷ us) (suc i) =
     ap (λ (ls : List Line). cond (lasting (weighted x u)) (weighted x u ∷ ls) ls) (struck-kept xs us i)
 
 pub stayed-is : (xs : List ℕ) (zs : List ℤ) (i : ℕ) (ys : List ℕ) (ws : List ℤ) → length xs ≡ length zs
-    → different (alongside xs zs) ≡ true
+    → distinct (alongside xs zs) ≡ true
     → stayed xs zs i (map (place xs) ys) ws
     ≡ keep lasting (map (bring (alongside ys ws)) (take i (alongside xs zs) ++ drop (suc i) (alongside xs zs)))
 stayed-is xs zs i ys ws e d =

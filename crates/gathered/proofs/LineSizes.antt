@@ -1,26 +1,16 @@
--- Lines by their places, and the sizes of their weights: a weight is no larger than what its line counts, and a line
--- counts no more than all lines.
-use mathlib.Core.Path.{_≡_, refl}
+-- The sizes of weights: a weight is no larger than what its line counts, and a line counts no more than all lines.
+use mathlib.Core.Path.{_≡_}
 use Prim.Native.Nat.{_≤_, _<_}
 use native.Mathlib.Nat.{le-refl, mul-le-mul, mul-one}
 use native.Mathlib.Omega.{arith}
-use Rattle.theory.specs.Basics.{List, [], _∷_, length, getD, ℕ, zero, suc, _+_, _^_, ℤ, pos, natAbs}
+use Rattle.theory.specs.Basics.{List, [], _∷_, length, ℕ, zero, suc, _+_, _^_, ℤ, natAbs}
 use Rattle.theory.specs.Basics.Laws.{Each, each-same}
 use Rattle.theory.specs.Bounds.Laws.{factorial-positive}
 use Rattle.pages.specs.Line.{Line, lineDegree}
-use Rattle.pages.specs.Page.{lineOf}
-use Rattle.pages.specs.Mode.{weighted, alongside}
+use Rattle.pages.specs.Mode.{alongside}
 use Rattle.pages.specs.Sound.{lineValue}
 use Rattle.pages.specs.Sound.Laws.{values}
 use Rattle.gathered.specs.Private.Joining.{Small}
-
--- ---- lines by their places
-pub alongside-at : (xs : List ℕ) (zs : List ℤ) (i : ℕ) → length xs ≡ length zs → i < length xs
-    → getD (alongside xs zs) i (lineOf 0) ≡ weighted (getD xs i 0) (getD zs i (pos 0))
-alongside-at [] zs i e l = absurd (omega arith)
-alongside-at (x ∷ xs) [] i e l = absurd (omega arith)
-alongside-at (x ∷ xs) (z ∷ zs) zero e l = refl
-alongside-at (x ∷ xs) (z ∷ zs) (suc i) e l = alongside-at xs zs i (omega arith) (omega arith)
 
 -- a line counts no more than all lines
 pub value-within : (lines : List Line) → Each (λ l. lineValue l ≤ values lines) lines

@@ -21,7 +21,8 @@ use Rattle.pages.specs.Gathering.{lasting}
 use Rattle.pages.specs.Gathering.AtOnce.{bring, isNew}
 use Rattle.pages.specs.Sound.Laws.{all-zero}
 use Rattle.pages.specs.Lawful.Gathered.{length-alongside}
-use Rattle.gathered.specs.Private.Joining.{place, raised, picked, stayed, linesOf, restOf, nextOf, putting, Joins}
+use Rattle.gathered.specs.Private.Joining.{place, raised, picked, stayed, linesBefore, restOf, nextOf}
+use Rattle.gathered.specs.Private.Joining.{putting, Joins}
 use Rattle.gathered.proofs.Counted.{next-parts}
 use Rattle.gathered.proofs.Joined.{length-raised, stayed-is, picked-words, picked-weights}
 use Rattle.gathered.proofs.Squeezing.{wordsOf, weightsOf, length-words}
@@ -76,7 +77,7 @@ module _ (page : List ℕ) (column : List ℤ) (line lines : ℕ) (places words 
   left = stayed xs zs line places weights
 
   abbrev new : List Line
-  new = keep (isNew (linesOf page column line lines)) hooks
+  new = keep (isNew (linesBefore page column line lines)) hooks
 
   abbrev next : List Line
   next = nextOf page column line lines words weights
@@ -90,7 +91,7 @@ module _ (page : List ℕ) (column : List ℤ) (line lines : ℕ) (places words 
   pub same : length xs ≡ length zs
   same = words-long ∙ sym weights-long
 
-  lines-long : length (linesOf page column line lines) ≡ lines
+  lines-long : length (linesBefore page column line lines) ≡ lines
   lines-long = length-alongside xs zs same ∙ words-long
 
   pub places-long : length places ≡ length words
@@ -102,7 +103,7 @@ module _ (page : List ℕ) (column : List ℤ) (line lines : ℕ) (places words 
 
   pub next-is : next ≡ left ++ new
   next-is =
-      next-parts (linesOf page column line lines) hooks line (omega (arith, lines-long, j .able .there))
+      next-parts (linesBefore page column line lines) hooks line (omega (arith, lines-long, j .able .there))
       (j .able .different-lines)
       (j .able .lasting-lines) (j .able .different-hooks) (j .able .lasting-hooks) (j .able .unlike-struck)
       ∙ ap (λ (ls : List Line). ls ++ new) (sym left-is)

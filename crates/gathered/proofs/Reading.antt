@@ -1,11 +1,11 @@
 -- A line of a page and a column beside it, as the code reads it: a word and its coefficient.
 --   wordAt, coefficientAt    what stands at a place of the page, and of the column
 --   Passed limit slip ..     what it tells that 6, 21 and 7 do not refuse slip, page and column
-use mathlib.Core.Path.{_≡_, refl, sym, _∙_, ap}
+use mathlib.Core.Path.{_≡_, sym, _∙_, ap}
 use Prim.Native.Nat.{_≤_, _<_}
 use native.Mathlib.Omega.{arith}
 use lib.Seq.{length-take-le, getD-take}
-use Rattle.theory.specs.Basics.{List, [], _∷_, map, length, getD, take, ℕ, zero, suc, _^_, ℤ, pos, total}
+use Rattle.theory.specs.Basics.{List, length, getD, take, ℕ, _^_, ℤ, pos}
 use Rattle.theory.specs.Basics.AtPlace.{each-at}
 use Rattle.theory.specs.Basics.Laws.{Each, each-same}
 use Rattle.theory.specs.Bounds.Laws.{largestLimit}
@@ -14,32 +14,21 @@ use Rattle.theory.specs.Refusals.{firstOf}
 use Rattle.pages.specs.Line.{Line}
 use Rattle.pages.specs.declared.Slip.{Slip}
 use Rattle.pages.specs.Page.{lineOf, lineAt}
-use Rattle.pages.specs.Mode.{weighted, alongside, unit, gatheredMode, waitingIn}
+use Rattle.pages.specs.Mode.{weighted, unit, gatheredMode, waitingIn}
 use Rattle.pages.specs.Sound.{lineValue, pageChecksIn}
 use Rattle.pages.specs.Sound.Laws.{SoundLine, line-wider, asked, SoundIn}
 use Rattle.pages.specs.Sound.Bounds.{asked-within}
 use Rattle.pages.specs.Lawful.Checks.{passed-page}
-use Rattle.pages.specs.Lawful.Gathered.{as-long, length-alongside, gathered-lawful}
+use Rattle.pages.specs.Lawful.Gathered.{as-long, length-alongside, alongside-at, gathered-lawful}
 use Rattle.characters.proofs.Watches.{waiting-fits}
 use Rattle.gathered.proofs.Alone.{own-line}
+use Rattle.gathered.proofs.LineSizes.{value-within}
 
 abbrev pub wordAt : List ℕ → ℕ → ℕ
 wordAt page i = getD page i 0
 
 abbrev pub coefficientAt : List ℤ → ℕ → ℤ
 coefficientAt column i = getD column i (pos 0)
-
-pub alongside-at : (page : List ℕ) (column : List ℤ) (i : ℕ) → length page ≡ length column → i < length page
-    → lineAt (alongside page column) i ≡ weighted (wordAt page i) (coefficientAt column i)
-alongside-at [] column i e h = absurd (omega arith)
-alongside-at (x ∷ page) [] i e h = absurd (omega arith)
-alongside-at (x ∷ page) (z ∷ column) zero e h = refl
-alongside-at (x ∷ page) (z ∷ column) (suc i) e h = alongside-at page column i (omega arith) (omega arith)
-
-one-of-all : {A : Type 0} (f : A → ℕ) (xs : List A) (d : A) (i : ℕ) → i < length xs → f (getD xs i d) ≤ total (map f xs)
-one-of-all f [] d i h = absurd (omega arith)
-one-of-all f (x ∷ xs) d zero h = omega arith
-one-of-all f (x ∷ xs) d (suc i) h = omega (arith, one-of-all f xs d i (omega arith))
 
 module _ (limit : ℕ) (slip : Slip) (page : List ℕ) (column : List ℤ) where
   abbrev lines : List Line
@@ -100,6 +89,6 @@ module _ (limit : ℕ) (slip : Slip) (page : List ℕ) (column : List ℤ) where
           omega (
             arith,
             same,
-            one-of-all lineValue lines (lineOf 0) line (omega (arith, lines-count)),
+            each-at _ lines (lineOf 0) line (value-within lines) (omega (arith, lines-count)),
             waiting-fits limit small slip lines (p .soundness .lines),
           )

@@ -12,7 +12,8 @@ use Rattle.words.specs.Answers.{Outcome}
 use Rattle.pages.specs.Line.{Line}
 use Rattle.pages.specs.Mode.{alongside}
 use Rattle.pages.specs.Lawful.Gathered.{length-alongside}
-use Rattle.gathered.specs.Private.Joining.{place, Small, savedBy, linesOf, nextOf, putting, joined, Joinable}
+use Rattle.gathered.specs.Private.Joining.{place, Small, savedBy, linesBefore, nextOf, putting}
+use Rattle.gathered.specs.Private.Joining.{joinedAnswer, Joinable}
 use Rattle.gathered.specs.Private.Joining.{Joins}
 use Rattle.gathered.specs.Private.Joining.{joinedOnto}
 use Rattle.gathered.proofs.Counted.{next-count}
@@ -73,7 +74,7 @@ module _ (page : List ℕ) (column : List ℤ) (line lines : ℕ) (words : List 
             lines-long,
             hooks-long,
             spares-all ∙ ap (λ (ps : List ℕ). savedBy zs ps weights) places-are ∙ spared-all xs zs same words weights,
-            next-count (linesOf page column line lines) (alongside words weights) line
+            next-count (linesBefore page column line lines) (alongside words weights) line
                 (omega (arith, lines-long, words-long, j .there)) (j .different-lines) (j .lasting-lines)
                 (j .different-hooks) (j .lasting-hooks) (j .unlike-struck),
           )
@@ -83,7 +84,7 @@ module _ (page : List ℕ) (column : List ℤ) (line lines : ℕ) (words : List 
 
       -- ---- a page that is too full, and one that is not
       pub too-full : length page + saved < lines - 1 + length words
-          → Outcome (joinedOnto page column line lines words weights) (joined true 0) (page, column)
+          → Outcome (joinedOnto page column line lines words weights) (joinedAnswer true 0) (page, column)
       unfolding joinedOnto
       too-full less = rw (lt-ltb (length page) (length next) (omega (arith, counts)))
           (record { answers = refl; leaves = refl })
@@ -94,7 +95,7 @@ module _ (page : List ℕ) (column : List ℤ) (line lines : ℕ) (words : List 
 
         pub joined-all : {r : ℕ} {left : List ℕ × List ℤ}
             → Outcome (putting next page column) r left
-            → Outcome (joinedOnto page column line lines words weights) (joined false r) left
+            → Outcome (joinedOnto page column line lines words weights) (joinedAnswer false r) left
         unfolding joinedOnto
         joined-all o = rw (le-ltb (length page) (length next) (omega (arith, counts)))
-            (record { answers = ap (joined false) (o .answers); leaves = o .leaves })
+            (record { answers = ap (joinedAnswer false) (o .answers); leaves = o .leaves })

@@ -1,11 +1,11 @@
--- Sums and products of whole numbers that have room, as 64 bits make them and test them for 0.
+-- Sums of whole numbers that have room, as 64 bits make them and test them for 0.
 use mathlib.Core.Path.{_≡_, refl, sym, _∙_, ap, ap₂}
 use Prim.Native.Nat.{_<_}
 use native.Mathlib.Omega.{arith}
 use mir.Facts.{toZ-ofZ}
 use mir.Syntax.{w64}
 use mir.Val.{SFits, toZ, ofZ}
-use Rattle.theory.specs.Basics.{_+_, _^_, ℤ, pos, negsuc, _+ℤ_, _*ℤ_, natAbs}
+use Rattle.theory.specs.Basics.{_+_, _^_, ℤ, pos, negsuc, _+ℤ_, natAbs}
 use Rattle.pages.proofs.Signed.{carried, carried-is, sum-is}
 
 -- a number that is not 0 in 64 bits has a size
@@ -31,18 +31,3 @@ module _ (a b r : ℤ) (small : natAbs a + natAbs b < 2 ^ 63) where
     sum-some f z =
         let is : r ≡ a +ℤ b = e ∙ ap₂ _+ℤ_ (carried-is a (omega arith)) (carried-is b (omega arith)) in
         some-size r f (ap natAbs is ∙ z)
-
--- ---- products
-fits : (z : ℤ) → natAbs z < 2 ^ 63 → SFits w64 z
-fits (pos n) l = record { sfits = l }
-fits (negsuc n) l = record { sfits = omega arith }
-
-module _ (x y : ℤ) (small-x : natAbs x < 2 ^ 63) (small-y : natAbs y < 2 ^ 63) (small : natAbs (x *ℤ y) < 2 ^ 63) where
-  same-product : carried x *ℤ carried y ≡ x *ℤ y
-  same-product = ap₂ _*ℤ_ (carried-is x small-x) (carried-is y small-y)
-
-  pub product-fits : SFits w64 (carried x *ℤ carried y)
-  product-fits = rw same-product (fits (x *ℤ y) small)
-
-  pub product-is : carried (carried x *ℤ carried y) ≡ x *ℤ y
-  product-is = ap carried same-product ∙ carried-is (x *ℤ y) small

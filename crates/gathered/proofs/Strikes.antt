@@ -13,6 +13,7 @@ use lib.Seq.{sets, sets-eq, length-sets, take-at}
 use Rattle.theory.specs.Basics.{false, List, [], _∷_, _++_, map, length, take, ℕ, _+_, _-_, _*_}
 use Rattle.theory.specs.Basics.{_^_, ℤ, pos}
 use Rattle.theory.specs.Basics.{_+ℤ_, _*ℤ_, natAbs, sum, _=?_}
+use Rattle.theory.specs.Basics.Integers.Products.{abs-times}
 use Rattle.theory.specs.Basics.Laws.{Each, each-same}
 use Rattle.theory.specs.Bounds.Laws.{factorial-positive}
 use Rattle.theory.specs.Limits.{degreeLimit}
@@ -200,13 +201,11 @@ module _ (x : ℕ) (z : ℤ) (s : SoundLine degreeLimit (weighted x z)) (cycle :
         carried-product : carried z *ℤ carried (h .slip .settled) ≡ z *ℤ h .slip .settled
         carried-product = ap₂ _*ℤ_ (carried-is z (omega (arith, size))) (carried-is (h .slip .settled) own-size)
 
-        pub times-fits : (natAbs (carried z) < 2 ^ 63) × (natAbs (carried (h .slip .settled)) < 2 ^ 63)
-            × (natAbs (carried z *ℤ carried (h .slip .settled)) < 2 ^ 63)
-        times-fits = (
-          rw (carried-is z (omega (arith, size))) (omega (arith, size)),
-          rw (carried-is (h .slip .settled) own-size) own-size,
-          rw carried-product product-size,
-        )
+        pub size-carried : natAbs (carried z) < 2 ^ 63
+        size-carried = rw (carried-is z (omega (arith, size))) (omega (arith, size))
+
+        pub times-fits : natAbs (carried z) * natAbs (carried (h .slip .settled)) < 2 ^ 63
+        times-fits = rw (← abs-times (carried z) (carried (h .slip .settled)), carried-product) product-size
 
         times-is : (r : ℤ) → r ≡ carried z *ℤ carried (h .slip .settled)
             → carried r ≡ sum weightOf (settledHooks cycle l)

@@ -3,17 +3,7 @@ ghost use mathlib.Core.Path.{_≡_};
 ghost use Prim.Native.Nat.{_≤_, _-_};
 ghost use lib.IntN.{pos};
 ghost use Rattle.theory.specs.Basics.{_++_, length, replicate};
-
-// Every coefficient becomes 0.
-fn clear(column: &mut [i64])
-    ensures { λ _. ⌜ now (column .exit) ≡ replicate (length (now (column .entry))) (pos 0) ⌝ }
-{
-    let mut at = 0;
-    while at < column.len() {
-        column[at] = 0;
-        at += 1;
-    }
-}
+use pages::clearing;
 
 // The column of a session that is opened: the coefficient of its line, where one waits, is 1, and all others are 0.
 pub fn begin(column: &mut [i64], lines: usize)
@@ -21,7 +11,7 @@ pub fn begin(column: &mut [i64], lines: usize)
     ensures { λ _. ⌜ now (column .exit)
         ≡ replicate lines (pos 1) ++ replicate (length (now (column .entry)) - lines) (pos 0) ⌝ }
 {
-    clear(column);
+    clearing::coefficients(column, 0);
     if lines == 1 {
         column[0] = 1;
     }

@@ -3,7 +3,7 @@
 // are then joined to the others. Everything is read before the first word is written.
 ghost use mathlib.Core.Path.{_≡_};
 ghost use Prim.Native.Nat.{_+_, _≤_, _<_, _^_};
-ghost use lib.IntN.{pos, _+ℤ_, _*ℤ_, natAbs};
+ghost use lib.IntN.{pos, _+ℤ_, natAbs};
 ghost use lib.Seq.{sets};
 ghost use Rattle.theory.specs.Basics.{map, length, signed};
 ghost use Rattle.theory.specs.Limits.{degreeLimit};
@@ -16,6 +16,7 @@ ghost use Rattle.pages.specs.Sound.Laws.{SoundLine};
 ghost use Rattle.characters.specs.Step.{commitIn};
 ghost use Rattle.gathered.specs.Private.Striking.{cleared, turned, Strikes};
 use super::joining;
+use super::numbers;
 use super::own;
 use characters::Handed;
 use characters::sessions;
@@ -27,14 +28,6 @@ struct Struck {
     refused: u8,
     count: usize,
     settled: i64,
-}
-
-// The product of two numbers, where it has room.
-fn times(x: i64, y: i64) -> i64
-    requires { ⌜ (natAbs x < 2 ^ 63) × (natAbs y < 2 ^ 63) × (natAbs (x *ℤ y) < 2 ^ 63) ⌝ }
-    ensures { λ r. ⌜ r ≡ x *ℤ y ⌝ }
-{
-    x * y
 }
 
 // A number, its sign turned where `minus` says so.
@@ -92,7 +85,7 @@ fn strike(
     Struck {
         refused: 0,
         count,
-        settled: times(coefficient, after.settled),
+        settled: numbers::times(coefficient, after.settled),
     }
 }
 
@@ -105,9 +98,9 @@ fn next_slip(slip: Slip, settled: i64, lines: usize) -> Slip
     Slip {
         shape: slip.shape,
         class: slip.class,
-        settled: joining::add(slip.settled, settled),
+        settled: numbers::add(slip.settled, settled),
         lines,
-        steps: joining::add(slip.steps, 1),
+        steps: numbers::add(slip.steps, 1),
         mode: slip.mode,
     }
 }

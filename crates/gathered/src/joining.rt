@@ -3,13 +3,14 @@
 // first, all coefficients are added, one pass takes out the lines that became 0, and the new lines come at the end.
 ghost use mathlib.Core.Path.{_≡_};
 ghost use Prim.Native.Nat.{_+_, _≤_, _<_, _^_};
-ghost use lib.IntN.{_+ℤ_, natAbs};
+ghost use lib.IntN.{natAbs};
 ghost use lib.Seq.{sets};
 ghost use Rattle.theory.specs.Basics.{map, length};
 ghost use Rattle.theory.specs.Limits.{degreeLimit};
 ghost use Rattle.words.specs.Answers.{Outcome};
 ghost use Rattle.gathered.specs.Private.Joining.{place, Small, savedAt, savedBy, raised, picked, kept, stayed};
 ghost use Rattle.gathered.specs.Private.Joining.{putting, Joinable, Joins, nextOf, joinedOnto};
+use super::numbers;
 
 // What comes of hook lines that are joined to lines: whether the page is too full for them, or how many lines there
 // are.
@@ -45,14 +46,6 @@ fn find_all(page: &[u64], words: &[u64], places: &mut [usize])
     }
 }
 
-// The sum of two numbers that have room together.
-pub fn add(x: i64, y: i64) -> i64
-    requires { ⌜ natAbs x + natAbs y < 2 ^ 63 ⌝ }
-    ensures { λ r. ⌜ r ≡ x +ℤ y ⌝ }
-{
-    x + y
-}
-
 // How many lines a hook line at this place spares: none where it is new, itself where it is joined to a line, and that
 // line too where its coefficient becomes 0.
 fn saved(column: &[i64], place: usize, weight: i64) -> usize
@@ -62,7 +55,7 @@ fn saved(column: &[i64], place: usize, weight: i64) -> usize
     if column.len() <= place {
         return 0;
     }
-    if add(column[place], weight) == 0 {
+    if numbers::add(column[place], weight) == 0 {
         return 2;
     }
     1
@@ -93,7 +86,7 @@ fn raise(column: &mut [i64], places: &[usize], weights: &[i64])
     while j < places.len() {
         let place = places[j];
         if place < column.len() {
-            column[place] = add(column[place], weights[j]);
+            column[place] = numbers::add(column[place], weights[j]);
         }
         j += 1;
     }

@@ -13,9 +13,9 @@ ghost use Rattle.characters.specs.Watch.{reads, watchChecksIn, watchIn};
 use characters::Handed;
 use characters::Watched;
 use characters::sessions;
+use pages::BLANK;
 use pages::GATHERED;
 use pages::PAGE_LIMIT;
-use pages::PLAIN;
 use pages::Slip;
 use pages::gathering;
 use pages::pairs;
@@ -25,6 +25,7 @@ mod columns;
 mod commits;
 mod joining;
 mod lines;
+mod numbers;
 mod own;
 
 // A refused opening.
@@ -33,14 +34,7 @@ fn unopened(number: u8) -> Handed
 {
     Handed {
         refused: number,
-        slip: Slip {
-            shape: 0,
-            class: 0,
-            settled: 0,
-            lines: 0,
-            steps: 0,
-            mode: PLAIN,
-        },
+        slip: BLANK,
     }
 }
 
@@ -117,7 +111,7 @@ pub fn commit(
     commits::committed(refused, slip, page, coefficients, line, cycle, strip)
 }
 
-// Why a watch is refused, 0 where it is not: 6, 21, 7, 15, 8; kinds 3 to 5 ignore the line number.
+// Why a watch is refused, 0 where it is not: 6, 21, 7, 15, 8.
 fn watch_refusal(slip: Slip, page: &[u64], coefficients: &[i64], kind: u64, line: usize) -> u8
     ensures { λ r. ⌜ r ≡ firstOf (watchChecksIn gatheredMode degreeLimit slip
         (now (page .entry), now (coefficients .entry)) kind line) ⌝ }
@@ -126,19 +120,7 @@ fn watch_refusal(slip: Slip, page: &[u64], coefficients: &[i64], kind: u64, line
     if refused != 0 {
         return refused;
     }
-    if kind == 0 {
-        return 15;
-    }
-    if 5 < kind {
-        return 15;
-    }
-    if 2 < kind {
-        return 0;
-    }
-    if slip.lines <= line {
-        return 8;
-    }
-    0
+    sessions::kind_refusal(kind, slip.lines, line)
 }
 
 // What a kind shows: 1 a line's coefficient times its character, 2 its ratio, without the coefficient, 3 the settled

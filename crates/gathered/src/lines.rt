@@ -1,7 +1,6 @@
 // Lines with coefficients (document 02, P7, "Watches 1 and 4 multiply by the coefficient"): weighed, and summed.
 ghost use mathlib.Core.Path.{_≡_};
-ghost use Prim.Native.Nat.{_+_, _*_, _<_, _^_};
-ghost use lib.IntN.{_+ℤ_, _*ℤ_, natAbs};
+ghost use Prim.Native.Nat.{_<_, _^_};
 ghost use Rattle.theory.specs.Basics.{length, sum as sumOf};
 ghost use Rattle.theory.specs.Basics.Laws.{Each};
 ghost use Rattle.theory.specs.Limits.{degreeLimit};
@@ -9,23 +8,8 @@ ghost use Rattle.pages.specs.Line.{signedCharacter};
 ghost use Rattle.pages.specs.Mode.{weighted, alongside};
 ghost use Rattle.pages.specs.Sound.{lineValue};
 ghost use Rattle.pages.specs.Sound.Laws.{SoundLine, values};
+use super::numbers;
 use characters::character;
-
-// A product that has room.
-fn times(coefficient: i64, number: i64) -> i64
-    requires { ⌜ natAbs coefficient * natAbs number < 2 ^ 63 ⌝ }
-    ensures { λ r. ⌜ r ≡ coefficient *ℤ number ⌝ }
-{
-    coefficient * number
-}
-
-// A sum that has room.
-fn plus(sum: i64, number: i64) -> i64
-    requires { ⌜ natAbs sum + natAbs number < 2 ^ 63 ⌝ }
-    ensures { λ r. ⌜ r ≡ sum +ℤ number ⌝ }
-{
-    sum + number
-}
 
 // A line's coefficient times its character.
 pub fn signed_character(line: u64, coefficient: i64) -> i64
@@ -34,7 +18,7 @@ pub fn signed_character(line: u64, coefficient: i64) -> i64
     ensures { λ r. ⌜ r ≡ signedCharacter (weighted line coefficient) ⌝ }
 {
     let number = character(pages::lines::shape(line), pages::lines::class(line)).number;
-    times(coefficient, number)
+    numbers::times(coefficient, number)
 }
 
 // The sum of the characters of lines, each times its coefficient.
@@ -47,7 +31,7 @@ pub fn sum(lines: &[u64], coefficients: &[i64]) -> i64
     let mut sum = 0i64;
     let mut i = 0;
     while i < lines.len() {
-        sum = plus(sum, signed_character(lines[i], coefficients[i]));
+        sum = numbers::add(sum, signed_character(lines[i], coefficients[i]));
         i += 1;
     }
     sum

@@ -10,8 +10,8 @@ use Rattle.theory.specs.Basics.{Bool, true, false, _&&_, List, length, getD, ta
 use Rattle.theory.specs.Basics.AtPlace.{each-at}
 use Rattle.theory.specs.Limits.{pageLimit}
 use Rattle.theory.specs.Refusals.{firstOf}
-use Rattle.pages.specs.Page.{lineOf, waiting, lineAt, Slip}
-use Rattle.pages.specs.Mode.{Mode, waitingIn, plainMode}
+use Rattle.pages.specs.Page.{lineOf, lineAt, Slip}
+use Rattle.pages.specs.Mode.{Mode, waitingIn, plainMode, waiting}
 use Rattle.pages.specs.Sound.{soundIn, sound, pageChecks}
 use Rattle.pages.specs.Sound.Laws.{SoundLine, line-wider, asked, Sound}
 use Rattle.pages.specs.Sound.Bounds.{asked-within}

@@ -12,7 +12,7 @@ use Rattle.theory.specs.Basics.{_/_, _%_, _^_, ℤ, pos, natAbs, _=?_, _≤?_, 
 use Rattle.theory.specs.Basics.Laws.{both}
 use Rattle.theory.specs.Basics.Keep.{same-test}
 use Rattle.theory.specs.Digits.{bit}
-use Rattle.pages.specs.Gathering.{alike, different}
+use Rattle.pages.specs.Gathering.{alike, distinct}
 use Rattle.pages.specs.Mode.{weighted, alongside}
 use Rattle.pages.specs.Private.Differences.{allDifferent}
 use Rattle.pages.specs.Private.Gathered.{moreCost, sufficesBesides}
@@ -38,8 +38,8 @@ unlike-words x z (y ∷ xs) (w ∷ zs) e =
     ap₂ (λ (a b : Bool). not a && b) (alike-words x y z w) (unlike-words x z xs zs (omega arith))
 
 pub different-words : (xs : List ℕ) (zs : List ℤ) → length xs ≡ length zs
-    → different (alongside xs zs) ≡ allDifferent xs
-unfolding different allDifferent
+    → distinct (alongside xs zs) ≡ allDifferent xs
+unfolding distinct allDifferent
 different-words [] zs e = refl
 different-words (x ∷ xs) [] e = absurd (omega arith)
 different-words (x ∷ xs) (z ∷ zs) e =

@@ -2,10 +2,10 @@
 --   alike l m              two lines are equal: one shape word and one class word, whatever their coefficients
 --   weighing z l           the line l with the weight z
 --   brought lines h        the weight of h is added to the earliest line equal to it; if none is, h comes at the end
---   joined lines hs        each of hs is brought to the lines, one after the other
+--   allBrought lines hs    each of hs is brought to the lines, one after the other
 --   lasting l              its weight is not 0
 --   gather lines hs        hs are joined to the lines, and those whose weight became 0 are taken out
---   different lines        no two lines are equal
+--   distinct lines         no two lines are equal
 --   gathered lines         no two lines are equal, and no weight is 0
 --   coefficient l lines    what the lines equal to l weigh together
 use Rattle.theory.specs.Basics.{Bool, true, not, cond, _&&_, List, [], _∷_, ℤ, _+ℤ_, natAbs, _=?_, keep, every, sum}
@@ -15,6 +15,7 @@ pub mod Sound
 pub mod Different
 pub mod AtOnce
 pub mod Agree
+pub mod Modes
 
 abbrev pub alike : Line → Line → Bool
 alike l m = l .shape =? m .shape && l .class =? m .class
@@ -27,22 +28,22 @@ brought [] h = h ∷ []
 brought (l ∷ lines) h =
     cond (alike l h) (weighing (l .weight +ℤ h .weight) l ∷ lines) (l ∷ brought lines h)
 
-unfoldable pub joined : List Line → List Line → List Line
-joined lines [] = lines
-joined lines (h ∷ hs) = joined (brought lines h) hs
+unfoldable pub allBrought : List Line → List Line → List Line
+allBrought lines [] = lines
+allBrought lines (h ∷ hs) = allBrought (brought lines h) hs
 
 abbrev pub lasting : Line → Bool
 lasting l = not (natAbs (l .weight) =? 0)
 
 abbrev pub gather : List Line → List Line → List Line
-gather lines hs = keep lasting (joined lines hs)
+gather lines hs = keep lasting (allBrought lines hs)
 
-unfoldable pub different : List Line → Bool
-different [] = true
-different (l ∷ lines) = every (λ m. not (alike l m)) lines && different lines
+unfoldable pub distinct : List Line → Bool
+distinct [] = true
+distinct (l ∷ lines) = every (λ m. not (alike l m)) lines && distinct lines
 
 abbrev pub gathered : List Line → Bool
-gathered lines = different lines && every lasting lines
+gathered lines = distinct lines && every lasting lines
 
 abbrev pub coefficient : Line → List Line → ℤ
 coefficient l lines = sum (λ m. m .weight) (keep (alike l) lines)

@@ -28,7 +28,8 @@ pub record Lawful (m : Mode) : Type 1 where
   pub written-unit : (l : Line) → natAbs (l .weight) ≡ 1 → l .shape < 2 ^ 31 → l .class < 2 ^ 32 → Written l
   pub written-like : (l y : Line) → Written l → natAbs (y .weight) ≡ natAbs (l .weight) → y .shape < 2 ^ 31
       → y .class < 2 ^ 32 → Written y
-  pub waits-put : (lines : List Line) (x : m .Lent) → Each Written lines → m .waits (length lines) (m .put lines x) ≡ lines
+  pub waits-put : (lines : List Line) (x : m .Lent) → Each Written lines
+      → m .waits (length lines) (m .put lines x) ≡ lines
   pub idle-put : (lines : List Line) (x : m .Lent) → m .idle (length lines) (m .put lines x) ≡ true
   pub length-put : (lines : List Line) (x : m .Lent) → length lines ≤ length (m .page x)
       → length (m .page (m .put lines x)) ≡ length (m .page x)

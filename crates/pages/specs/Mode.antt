@@ -15,9 +15,11 @@
 --   plainMode            a page of words, each with its sign; hook lines come at the end
 --   weighted x z         the line of the word x, with the coefficient z; its shape word is no good one where the sign
 --                        digit is set
---   gatheredMode         words with clear sign digits and a coefficient beside each; hook lines are gathered, no two lines
---                        are equal and no coefficient is 0; strip and ratio leave the coefficient out
---   waitingIn m slip x   the lines that wait
+--   gatheredMode         words with clear sign digits and a coefficient beside each; hook lines are gathered, no two
+--                        lines are equal and no coefficient is 0; strip and ratio leave the coefficient out
+--   alongside page ..    the lines of a page and of the column beside it
+--   unit l               the line l with the weight 1
+--   waitingIn m slip x   the lines that wait; waiting slip page, in the plain mode
 use Rattle.theory.specs.Basics.{Bool, true, _&&_, List, [], _∷_, _++_, map, length, take, drop, replicate, ℕ, _-_, _/_}
 use Rattle.theory.specs.Basics.{_%_, _^_, ℤ, pos, natAbs, _=?_, every}
 use Rattle.theory.specs.Refusals.{Check, no-6, no-21}
@@ -54,6 +56,9 @@ plainMode = record {
   own = λ l. l;
   join = _++_;
 }
+
+abbrev pub waiting : Slip → List ℕ → List Line
+waiting slip page = waitingIn plainMode slip page
 
 -- ---- the gathered mode
 abbrev pub weighted : ℕ → ℤ → Line

@@ -2,12 +2,12 @@
 --   lineOf x            the line of the word x: its weight is 1, or -1 where bit 31 of its shape word is set
 --   wordOf l            (signed shape word) times 2^32 plus (class word)
 --   plain minus s c     a line of this sign, shape word and class word
---   waiting slip page   the lines that wait; lineAt lines i, the line numbered i, from 0, and lineOf 0 past the end
+--   lineAt lines i      the line numbered i, from 0, and lineOf 0 past the end
 --   padded lines page   the words of the lines, and zeros after them, as long as the page
 --   slipOf ..           a slip by its six fields; blank, all zeros
 --   worth slip lines    what every step keeps: settled plus the signed characters of the waiting lines
 use lib.Signed.{nonNeg}
-use Rattle.theory.specs.Basics.{Bool, cond, List, _++_, map, length, getD, take, replicate, ℕ, _+_, _-_, _*_, _/_, _%_}
+use Rattle.theory.specs.Basics.{Bool, cond, List, _++_, map, length, getD, replicate, ℕ, _+_, _-_, _*_, _/_, _%_}
 use Rattle.theory.specs.Basics.{_^_, ℤ, pos, _+ℤ_, signed, sum}
 use Rattle.theory.specs.Digits.{bit}
 pub use Rattle.pages.specs.declared.Slip.{Slip}
@@ -23,9 +23,6 @@ wordOf l = (cond (nonNeg (l .weight)) 0 (2 ^ 31) + l .shape) * 2 ^ 32 + l .class
 
 abbrev pub plain : Bool → ℕ → ℕ → Line
 plain minus shape class = record { weight = signed minus (pos 1); shape = shape; class = class }
-
-abbrev pub waiting : Slip → List ℕ → List Line
-waiting slip page = map lineOf (take (slip .lines) page)
 
 abbrev pub lineAt : List Line → ℕ → Line
 lineAt lines i = getD lines i (lineOf 0)

@@ -22,6 +22,7 @@ use super::differences;
 use super::idle;
 use super::lines;
 use super::paying;
+use super::paying::SPANS;
 use super::soundness;
 use words::classes::FACTORIALS;
 
@@ -93,9 +94,10 @@ fn afforded(budget: Budget, lines: &[u64], coefficients: &[i64]) -> bool
     requires { ⌜ length (now lines) ≡ length (now coefficients) ⌝ }
     ensures { λ r. ⌜ r ≡ isAfforded degreeLimit budget (alongside (now (lines .entry)) (now (coefficients .entry))) ⌝ }
 {
-    let after = soundness::spend(budget, lines);
+    let factorials = FACTORIALS;
+    let spans = SPANS;
+    let after = soundness::spent(budget, lines, &factorials, &spans);
     if after.enough {
-        let factorials = FACTORIALS;
         if lines.len() < MANY {
             let mut shapes = [0u64; 0];
             return besides(after.value, lines, coefficients, &factorials, &mut shapes);

@@ -2,6 +2,7 @@
 // written, what a shape word and a class word have in common, and whether slip and page are sound, in either mode.
 // Every call takes every input.
 
+pub mod clearing;
 mod degrees;
 mod differences;
 pub mod gathering;
@@ -29,6 +30,16 @@ pub struct Slip {
     pub steps: i64,
     pub mode: u32,
 }
+
+// A slip of zeros.
+pub const BLANK: Slip = Slip {
+    shape: 0,
+    class: 0,
+    settled: 0,
+    lines: 0,
+    steps: 0,
+    mode: PLAIN,
+};
 
 // What is left of n! and S(n), n being the degree that a slip asks for; all zeros where one does not suffice.
 pub struct Budget {

@@ -77,7 +77,7 @@ fn spent_with(
 
 // The same, with places where there are many lines, which have few words between them: they start as zeros, which are
 // right, since the word 0 has the degree 0.
-fn spent(budget: Budget, lines: &[u64], factorials: &[u64], spans: &[u64]) -> Budget
+pub(crate) fn spent(budget: Budget, lines: &[u64], factorials: &[u64], spans: &[u64]) -> Budget
     requires { ⌜ Tabled degreeLimit factorial (now factorials) × Tabled degreeLimit S (now spans) ⌝ }
     ensures { λ r. ⌜ r ≡ spentAll degreeLimit budget (map lineOf (now (lines .entry))) ⌝ }
 {

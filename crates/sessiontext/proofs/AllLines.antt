@@ -37,7 +37,11 @@ small = omega arith
 
 -- ---- one line
 pub straight-read : {text : Text} {at : ℕ} {r : LineAt} → LineStands text at r → r .formed ≡ true → ReadNext text at r
-straight-read s f = record { ends = s .ends; formed = f ∙ sym (waiting-is plainForm degreeLimit _ (s .formed)); word = λ b. s .word }
+straight-read s f = record {
+  ends = s .ends;
+  formed = f ∙ sym (waiting-is plainForm degreeLimit _ (s .formed));
+  word = λ b. s .word;
+}
 
 pub longer-read : {text : Text} {at end : ℕ} {r : LineRead} → end ≡ at + length (firstLine (drop at text))
     → ReadWaiting (take (end - at) (drop at text)) r

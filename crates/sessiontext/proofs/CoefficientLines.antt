@@ -1,7 +1,7 @@
 -- Waiting lines with coefficients that are read off a text: one line, told by comparing, and loops over them.
 --   Faultless ..   the lines in front of `at` are of their form
 --   Down ..        the lines in front of `at` are put down
-use mathlib.Core.Path.{_≡_, refl, sym, _∙_, ap}
+use mathlib.Core.Path.{_≡_, refl, sym, _∙_, ap, ap₂, subst}
 use mathlib.Core.Bool.{false≢true}
 use Prim.Native.Nat.{_≤_, _<_}
 use native.Mathlib.Nat.{add-zero, add-comm}
@@ -9,34 +9,37 @@ use native.Mathlib.Numerals.{add-one}
 use native.Mathlib.Omega.{arith}
 use lib.ListN.{set, length-set, drop-of-length-le}
 use lib.Seq.{sets}
-use Rattle.theory.specs.Basics.{Bool, true, false, _&&_, List, _∷_, ℕ, _+_, _-_, _*_, _%_, _^_, ℤ, pos, length, take}
-use Rattle.theory.specs.Basics.{drop}
+use Rattle.theory.specs.Basics.{Bool, true, false, _&&_, List, _∷_, ℕ, _+_, _-_, _*_, _/_, _%_, _^_, ℤ, length}
+use Rattle.theory.specs.Basics.{take, drop}
 use Rattle.theory.specs.Basics.Keep.{same-test}
 use Rattle.theory.specs.Basics.Laws.{Each, both}
 use Rattle.theory.specs.Digits.{width}
+use Rattle.theory.specs.ShapeWord.{shapeWord}
+use Rattle.theory.specs.ClassWord.{classWord}
 use Rattle.theory.specs.Limits.{degreeLimit}
 use Rattle.theory.specs.Refusals.{firstOf}
-use Rattle.text.specs.Text.{Text, integer}
-use Rattle.text.specs.Text.Decimals.{integer-length}
+use Rattle.text.specs.Text.{Text}
 use Rattle.text.specs.Reading.{before, linesOf, firstLine}
 use Rattle.text.specs.Reading.Bytes.{before-take, before-fits}
 use Rattle.text.specs.Reading.Lines.{Next, next}
+use Rattle.pages.specs.Line.{Line}
 use Rattle.pages.specs.Page.{wordOf, plain}
-use Rattle.pages.specs.Mode.{unit}
+use Rattle.pages.specs.Mode.{weighted, unit}
 use Rattle.sessiontext.specs.declared.numbers.IntegerRead.{IntegerRead}
-use Rattle.sessiontext.specs.declared.waiting.LineParts.{LineParts}
+use Rattle.sessiontext.specs.declared.waiting.LineRead.{LineRead}
 use Rattle.sessiontext.specs.declared.coefficients.WeightedRead.{WeightedRead}
-use Rattle.sessiontext.specs.SessionText.{held, gatheredForm, weightedText}
-use Rattle.sessiontext.specs.SessionText.Faithful.Gathered.{held-shorter}
-use Rattle.sessiontext.specs.SessionText.Room.{weightedRoom, weighted-short}
-use Rattle.sessiontext.specs.Reading.{minusIn, shapeIn, classIn, weightBy, isWaitingBy, lineIn, lineBy}
-use Rattle.sessiontext.specs.Reading.{lineFaultsBy}
-use Rattle.sessiontext.specs.Reading.Forms.{WaitingBy, InLimit, limit-in, is-waiting, waiting-is}
-use Rattle.sessiontext.specs.Reading.Exact.{shape-within, class-within}
+use Rattle.sessiontext.specs.SessionText.{held, gatheredForm, lineTextBy}
+use Rattle.sessiontext.specs.SessionText.Faithful.Gathered.{gathered-faithful}
+use Rattle.sessiontext.specs.SessionText.Storable.{StorableLineBy}
+use Rattle.sessiontext.specs.SessionText.Room.{weightedRoom, line-short}
+use Rattle.sessiontext.specs.Reading.{inLimit, minusIn, shapeIn, classIn, weightBy, isWaitingBy, lineIn}
+use Rattle.sessiontext.specs.Reading.{lineBy, lineFaultsBy}
+use Rattle.sessiontext.specs.Reading.Forms.{WaitingBy, InLimit, limit-in, is-waiting}
+use Rattle.sessiontext.specs.Reading.Exact.{shape-within, class-within, told-storable}
 use Rattle.sessiontext.specs.Private.Read.{ReadInteger, ReadLine}
-use Rattle.sessiontext.specs.Private.Weighted.{ReadWeighted, readAs, wordsOf, weightsOf, PutDown}
+use Rattle.sessiontext.specs.Private.Weighted.{ToldWeighted, ReadWeighted, readAs, wordsOf, weightsOf, PutDown}
 use Rattle.sessiontext.proofs.NumberLines.{Compared}
-use Rattle.sessiontext.proofs.WaitingLines.{its-limits}
+use Rattle.sessiontext.proofs.WaitingLines.{both-limits, its-limits, compared}
 
 small : degreeLimit < width
 small = omega arith
@@ -65,54 +68,76 @@ word-unsigned t i j =
     unsigned (minusIn t) _ _ (omega (arith, shape-within degreeLimit small i .good .below))
     (omega (arith, class-within degreeLimit small j .good .below))
 
-module _ {t : Text} {r : LineParts} {w : IntegerRead} {rows cycles : List ℕ} (read : ReadLine t r rows cycles)
+-- a word and a coefficient are read as the line that they were made of
+line-back : (t : Text) → InLimit degreeLimit (classIn t)
+    → weighted (wordOf (unit (lineBy gatheredForm t))) (weightBy gatheredForm t) ≡ lineBy gatheredForm t
+unfolding lineBy
+line-back t j =
+    let s : ℕ = shapeWord (shapeIn t) in
+    let k : ℕ = classWord (classIn t) in
+    let room = class-within degreeLimit small j .good .below in
+    let shape : ((0 + s) * 2 ^ 32 + k) / 2 ^ 32 ≡ s = omega (arith, room) in
+    let class : ((0 + s) * 2 ^ 32 + k) % 2 ^ 32 ≡ k = omega (arith, room) in
+    rw (shape, class)
+
+-- what stands in the line, whatever its form
+module _ {t : Text} {r : LineRead} {w : IntegerRead} (read : ReadLine t r)
     (weight : ReadInteger (before 59 t) w) where
-  pub line-unread : w .formed && r .formed ≡ false
-      → ReadWeighted t (record { formed = false; word = 0; coefficient = pos 0 })
+  pub line-told : {formed : Bool} → formed ≡ (w .formed && r .formed)
+      → ToldWeighted t (record { formed = formed; word = r .word % 2 ^ 63; coefficient = w .number })
+  line-told {formed} f =
+      let parts : formed ≡ true → (w .formed ≡ true) × (r .formed ≡ true) = λ e. both _ _ (sym f ∙ e) in
+      record {
+        formed = f ∙ rw (weight .formed, read .formed) refl;
+        word = λ e. let l = its-limits read (parts e .1) in
+            rw (read .word (parts e .1)) (word-unsigned t (l .0) (l .1));
+        coefficient = λ e. weight .number (parts e .0);
+      }
+
+-- whether it is of its form
+module _ {t : Text} {r : WeightedRead} (told : ToldWeighted t r) where
+  pub line-formed : WaitingBy gatheredForm degreeLimit t → r .formed ≡ true
+  line-formed l = told .formed ∙ rw (l .fits, limit-in (l .shape), limit-in (l .class)) refl
+
+  pub line-unread : r .formed ≡ false → ReadWeighted t r
   line-unread e = record {
-    formed = same-test false (isWaitingBy gatheredForm degreeLimit t) (λ b. absurd (false≢true b))
-        (λ b. let l = is-waiting gatheredForm degreeLimit t b in
-        let first : w .formed ≡ true = weight .formed ∙ l .fits in
-        let second : r .formed ≡ true = read .formed ∙ rw (limit-in (l .shape), limit-in (l .class)) refl in
-        absurd (false≢true (sym e ∙ rw (first, second) refl)));
-    word = λ b. absurd (false≢true b);
-    coefficient = λ b. absurd (false≢true b);
+    formed = same-test (r .formed) (isWaitingBy gatheredForm degreeLimit t) (λ b. absurd (false≢true (sym e ∙ b)))
+        (λ b. line-formed (is-waiting gatheredForm degreeLimit t b));
+    word = told .word;
+    coefficient = told .coefficient;
   }
 
-  module _ (f : w .formed && r .formed ≡ true) where
-    pub weight-formed : w .formed ≡ true
-    weight-formed = both (w .formed) (r .formed) f .0
+  module _ (f : r .formed ≡ true) where
+    abbrev parts : (held (weightBy gatheredForm t) ≡ true)
+        × ((inLimit degreeLimit (shapeIn t) && inLimit degreeLimit (classIn t)) ≡ true)
+    parts = both (held (weightBy gatheredForm t)) _ (sym (told .formed) ∙ f)
 
-    pub parts-formed : r .formed ≡ true
-    parts-formed = both (w .formed) (r .formed) f .1
+    abbrev limits : InLimit degreeLimit (shapeIn t) × InLimit degreeLimit (classIn t)
+    limits = both-limits t (parts .1)
 
-    its-held : held (weightBy gatheredForm t) ≡ true
-    its-held = sym (weight .formed) ∙ weight-formed
+    its-made : weighted (r .word) (r .coefficient) ≡ lineBy gatheredForm t
+    its-made = ap₂ weighted (told .word f) (told .coefficient f) ∙ line-back t (limits .1)
 
-    pub its-weight : w .number ≡ weightBy gatheredForm t
-    its-weight = weight .number weight-formed
+    pub its-text : lineTextBy gatheredForm (weighted (r .word) (r .coefficient))
+        ≡ lineTextBy gatheredForm (lineBy gatheredForm t)
+    its-text = ap (λ (l : Line). lineTextBy gatheredForm l) its-made
 
-    abbrev own : Text
-    own = weightedText (integer (weightBy gatheredForm t)) (shapeIn t) (classIn t)
+    pub its-storable : StorableLineBy gathered-faithful degreeLimit (weighted (r .word) (r .coefficient))
+    its-storable =
+        subst (λ (l : Line). StorableLineBy gathered-faithful degreeLimit l) (sym its-made)
+        (told-storable degreeLimit small gathered-faithful t (parts .0) (limits .0) (limits .1))
 
-    pub line-fits : length own ≤ weightedRoom
-    line-fits =
-        let l = its-limits read parts-formed in
-        weighted-short (integer (weightBy gatheredForm t)) (shapeIn t) (classIn t) 20
-        (integer-length (weightBy gatheredForm t) 18 (held-shorter (weightBy gatheredForm t) its-held)) (l .0) (l .1)
+    pub line-fits : length (lineTextBy gatheredForm (weighted (r .word) (r .coefficient))) ≤ weightedRoom
+    unfolding gathered-faithful
+    line-fits = line-short gathered-faithful (weighted (r .word) (r .coefficient)) its-storable
 
-    pub line-read : {b : Bool} → Compared b t own
-        → ReadWeighted t (record { formed = b; word = r .word % 2 ^ 63; coefficient = w .number })
-    line-read {b} c =
-        let l = its-limits read parts-formed in
-        record {
-          formed = same-test b (isWaitingBy gatheredForm degreeLimit t)
-              (λ e. waiting-is gatheredForm degreeLimit t
-              (record { fits = its-held; shape = l .0; class = l .1; whole = c .0 e }))
-              (λ e. c .1 (is-waiting gatheredForm degreeLimit t e .whole));
-          word = λ e. rw (read .word parts-formed) (word-unsigned t (l .0) (l .1));
-          coefficient = λ e. its-weight;
-        }
+    pub line-read : {b : Bool} → Compared b t (lineTextBy gatheredForm (lineBy gatheredForm t))
+        → ReadWeighted t (record { formed = b; word = r .word; coefficient = r .coefficient })
+    line-read c = record {
+      formed = compared gathered-faithful t (parts .0) (limits .0) (limits .1) c;
+      word = λ e. told .word f;
+      coefficient = λ e. told .coefficient f;
+    }
 
 -- ---- judging
 module _ (text : Text) (start : ℕ) where
@@ -189,21 +214,18 @@ module _ (text : Text) (start : ℕ) (page : List ℕ) (column : List ℤ) where
 
   module _ {at count end : ℕ} {after : List ℕ} {beside : List ℤ} {w : WeightedRead} (p : Down at count after beside)
       (h : at < length text) (e : end ≡ at + length (firstLine (drop at text)))
-      (read : ReadWeighted (take (end - at) (drop at text)) w) where
+      (read : ToldWeighted (take (end - at) (drop at text)) w) where
     next-line : Next text at end
     next-line = next text at end e
 
     split : Each (WaitingBy gatheredForm degreeLimit) (firstLine (drop at text) ∷ linesOf (drop end text))
     split = rw (next-line .split h) at (p .formed)
 
-    its-line : ReadWeighted (firstLine (drop at text)) w
+    its-line : ToldWeighted (firstLine (drop at text)) w
     its-line = rw (next-line .line) at read
 
     its-form : w .formed ≡ true
-    its-form = its-line .formed ∙ waiting-is gatheredForm degreeLimit _ (split .0)
-
-    pub down-held : held (w .coefficient) ≡ true
-    down-held = ap held (its-line .coefficient its-form) ∙ split .0 .fits
+    its-form = line-formed its-line (split .0)
 
     pub down-room : (count < length after) × (count < length beside)
     down-room =

@@ -12,7 +12,6 @@ mod Standing
 mod Heads
 mod GatheredHeads
 mod AllLines
-mod Alongside
 mod Saving
 mod Loading
 mod GatheredLoading

@@ -108,30 +108,7 @@ module _ {f : Form} (fa : Faithful f) (text : Text) (x : f .mode .Lent) where
             rw none (record { answers = refl; leaves = whole })
 
 -- ---- what is lent
--- zeros from a place on: one more
 module _ {A : Type 0} (v : A) where
-  take-put : (xs : List A) (at : ℕ) → at < length xs → take (suc at) (set xs at v) ≡ take at xs ++ v ∷ []
-  take-put [] at h = absurd (omega arith)
-  take-put (x ∷ xs) zero h = refl
-  take-put (x ∷ xs) (suc at) h = ap (λ (l : List A). x ∷ l) (take-put xs at (omega arith))
-
-  one-more : (n at : ℕ) → at < n → replicate (n - at) v ≡ v ∷ replicate (n - suc at) v
-  one-more n at h =
-      let more : n - at ≡ suc (n - suc at) = omega arith in
-      rw more refl
-
-  pub clears-more : (xs : List A) (at : ℕ) → at < length xs
-      → take (at + 1) (set xs at v) ++ replicate (length (set xs at v) - (at + 1)) v
-      ≡ take at xs ++ replicate (length xs - at) v
-  clears-more xs at h =
-      rw (add-one, take-put xs at h, length-set xs at v, one-more (length xs) at h)
-      (append-assoc (take at xs) (v ∷ []) _)
-
-  pub cleared-all : (xs : List A) (at : ℕ) → length xs ≤ at → take at xs ++ replicate (length xs - at) v ≡ xs
-  cleared-all xs at h =
-      let none : length xs - at ≡ 0 = omega arith in
-      rw (take-all at xs h, none) (append-nil xs)
-
   -- what is put at the front, and zeros from there on
   pub put-front : (vs xs : List A) → length vs ≤ length xs → take (length vs) (sets xs 0 vs) ≡ vs
   put-front vs xs h = rw (sets-eq vs xs 0 (omega arith), zero-add) (take-append-seam vs _)

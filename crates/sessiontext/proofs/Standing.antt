@@ -191,13 +191,15 @@ module _ {text : Text} {at : ℕ} (inside : at ≤ length text) (minus : Bool)
     unfolding plain-faithful
     signed-formed =
         rw (sign-read minus) at
-        (waiting-formed degreeLimit small (shape .parts) (class .parts) i j plain-faithful weight (abs-signed minus (pos 1)))
+        (waiting-formed degreeLimit small (shape .parts) (class .parts) i j plain-faithful weight
+        (abs-signed minus (pos 1)))
 
     signed-same : lineIn line ≡ plain minus (shapeWord (shape .parts)) (classWord (class .parts))
     unfolding plain-faithful
     signed-same =
         rw (sign-read minus) at
-        (waiting-same degreeLimit small (shape .parts) (class .parts) i j plain-faithful weight (abs-signed minus (pos 1)))
+        (waiting-same degreeLimit small (shape .parts) (class .parts) i j plain-faithful weight
+        (abs-signed minus (pos 1)))
 
   pub line-stands : {word : ℕ} → word ≡ wordOf (plain minus (s .word % 2 ^ 31) (c .word))
       → LineStands text at (record { formed = true; word = word; end = c .end })

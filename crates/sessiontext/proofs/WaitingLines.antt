@@ -1,6 +1,6 @@
 -- A waiting line that is read off a line of text: where its semicolons cut it, and what is told by comparing.
 --   Cuts t first start second last   the places at which the sign's, the shape's and the class's text start and end
-use mathlib.Core.Path.{_≡_, refl, sym, _∙_, ap}
+use mathlib.Core.Path.{_≡_, refl, sym, _∙_, ap, subst}
 use mathlib.Core.Bool.{false≢true}
 use Prim.Native.Nat.{_≤_, _<_, min}
 use native.Mathlib.Decide.{decLe}
@@ -18,22 +18,32 @@ use Rattle.theory.specs.ShapeWord.{shapeWord}
 use Rattle.theory.specs.ShapeWord.Good.{good-shape}
 use Rattle.theory.specs.ShapeWord.Words.{rows-good}
 use Rattle.theory.specs.ClassWord.{classWord}
+use Rattle.theory.specs.Digits.{width}
 use Rattle.theory.specs.Limits.{degreeLimit}
 use Rattle.text.specs.Text.{Text}
 use Rattle.text.specs.Reading.{holds, before, behind}
 use Rattle.text.specs.Reading.Bytes.{before-take, before-fits, byte-found, byte-missing}
-use Rattle.pages.specs.Page.{wordOf}
-use Rattle.pages.specs.Page.{plain}
+use Rattle.pages.specs.Line.{Line}
+use Rattle.pages.specs.Page.{lineOf, wordOf, plain}
+use Rattle.pages.specs.Page.Words.{line-read}
+use Rattle.pages.specs.Lawful.Plain.{plain-lawful}
 use Rattle.sessiontext.specs.declared.partitions.PartsRead.{PartsRead}
-use Rattle.sessiontext.specs.declared.waiting.LineParts.{LineParts}
-use Rattle.sessiontext.specs.SessionText.{plainForm, waitingText}
-use Rattle.sessiontext.specs.SessionText.Faithful.Plain.{sign-read as sign-told}
-use Rattle.sessiontext.specs.SessionText.Room.{lineRoom, waiting-short}
-use Rattle.sessiontext.specs.Reading.{inLimit, minusIn, shapeIn, classIn, isWaiting, lineIn, lineBy}
-use Rattle.sessiontext.specs.Reading.Forms.{InLimit, in-limit, limit-in, is-waiting, waiting-is, signed-whole}
+use Rattle.sessiontext.specs.declared.waiting.LineRead.{LineRead}
+use Rattle.sessiontext.specs.SessionText.{Form, plainForm, lineTextBy, lineText}
+use Rattle.sessiontext.specs.SessionText.Faithful.{Faithful}
+use Rattle.sessiontext.specs.SessionText.Faithful.Plain.{plain-faithful}
+use Rattle.sessiontext.specs.SessionText.Storable.{StorableLine}
+use Rattle.sessiontext.specs.SessionText.Room.{lineRoom, plain-line-short}
+use Rattle.sessiontext.specs.Reading.{inLimit, minusIn, shapeIn, classIn, weightBy, isWaitingBy, lineBy}
+use Rattle.sessiontext.specs.Reading.{isWaiting, lineIn}
+use Rattle.sessiontext.specs.Reading.Forms.{InLimit, in-limit, limit-in, is-waiting, waiting-is}
+use Rattle.sessiontext.specs.Reading.Exact.{told-text, told-storable, told-written}
 use Rattle.sessiontext.specs.Private.Read.{ReadParts, ReadLine, ReadWaiting}
 use Rattle.sessiontext.proofs.NumberLines.{Compared}
 use Rattle.sessiontext.proofs.Settled.{found-minus}
+
+small : degreeLimit < width
+small = omega arith
 
 -- ---- cuts
 behind-missing : (b : ℕ) (t : Text) → holds b t ≡ false → behind b t ≡ []
@@ -106,30 +116,38 @@ shape-kept ps =
 
 module _ {t : Text} {rows cycles : List ℕ} {r q : PartsRead} (shape : ReadParts shapeWord (before 59 (behind 59 t)) r rows)
     (class : ReadParts classWord (behind 59 (behind 59 t)) q cycles) where
-  pub line-parts : {minus formed : Bool} {word : ℕ} → minus ≡ minusIn t → formed ≡ (r .formed && q .formed)
+  pub line-word : {minus formed : Bool} {word : ℕ} → minus ≡ minusIn t → formed ≡ (r .formed && q .formed)
       → word ≡ wordOf (plain minus (r .word % 2 ^ 31) (q .word))
-      → ReadLine t
-      (record { formed = formed; minus = minus; rows = r .count; cycles = q .count; word = word }) rows cycles
+      → ReadLine t (record { formed = formed; word = word })
   unfolding lineBy
-  line-parts {minus} {formed} {word} m f w =
+  line-word {minus} {formed} {word} m f w =
       let first : formed ≡ true → r .formed ≡ true = λ e. both (r .formed) (q .formed) (sym f ∙ e) .0 in
       let second : formed ≡ true → q .formed ≡ true = λ e. both (r .formed) (q .formed) (sym f ∙ e) .1 in
       record {
         formed = f ∙ rw (shape .formed, class .formed) refl;
-        minus = λ e. m;
-        shape-inside = λ e. shape .inside (first e);
-        shape = λ e. shape .front (first e);
-        class-inside = λ e. class .inside (second e);
-        class = λ e. class .front (second e);
         word = λ e. w ∙ rw (shape .word (first e), shape-kept (shapeIn t), class .word (second e), m) refl;
       }
 
--- ---- comparing
-module _ {t : Text} {r : LineParts} {rows cycles : List ℕ} (read : ReadLine t r rows cycles) where
+-- ---- comparing with what is written of the line that was read
+module _ {f : Form} (fa : Faithful f) (t : Text) (fits : f .fits (weightBy f t) ≡ true)
+    (shape : InLimit degreeLimit (shapeIn t)) (class : InLimit degreeLimit (classIn t)) where
+  pub compared : {b : Bool} → Compared b t (lineTextBy f (lineBy f t)) → b ≡ isWaitingBy f degreeLimit t
+  compared {b} c =
+      let own = told-text degreeLimit small fa t fits shape class in
+      same-test b (isWaitingBy f degreeLimit t)
+      (λ e. waiting-is f degreeLimit t
+      (record { fits = fits; shape = shape; class = class; whole = c .0 e ∙ own }))
+      (λ e. c .1 (is-waiting f degreeLimit t e .whole ∙ sym own))
+
+pub both-limits : (t : Text) → (inLimit degreeLimit (shapeIn t) && inLimit degreeLimit (classIn t)) ≡ true
+    → InLimit degreeLimit (shapeIn t) × InLimit degreeLimit (classIn t)
+both-limits t e =
+    let l = both (inLimit degreeLimit (shapeIn t)) (inLimit degreeLimit (classIn t)) e in
+    (in-limit degreeLimit (shapeIn t) (l .0), in-limit degreeLimit (classIn t) (l .1))
+
+module _ {t : Text} {r : LineRead} (read : ReadLine t r) where
   pub its-limits : r .formed ≡ true → InLimit degreeLimit (shapeIn t) × InLimit degreeLimit (classIn t)
-  its-limits f =
-      let l = both (inLimit degreeLimit (shapeIn t)) (inLimit degreeLimit (classIn t)) (sym (read .formed) ∙ f) in
-      (in-limit degreeLimit (shapeIn t) (l .0), in-limit degreeLimit (classIn t) (l .1))
+  its-limits f = both-limits t (sym (read .formed) ∙ f)
 
   pub waiting-unread : r .formed ≡ false → ReadWaiting t (record { formed = false; word = 0 })
   waiting-unread e = record {
@@ -140,19 +158,27 @@ module _ {t : Text} {r : LineParts} {rows cycles : List ℕ} (read : ReadLine t 
   }
 
   module _ (f : r .formed ≡ true) where
-    pub waiting-fits : length (waitingText (minusIn t) (shapeIn t) (classIn t)) ≤ lineRoom
-    waiting-fits = waiting-short (minusIn t) (its-limits f .0) (its-limits f .1)
+    its-line : lineOf (r .word) ≡ lineIn t
+    unfolding plain-faithful plain-lawful
+    its-line =
+        ap lineOf (read .word f)
+        ∙ line-read (lineIn t)
+        (told-written degreeLimit small plain-faithful t refl (its-limits f .0) (its-limits f .1))
 
-    pub waiting-read : {b : Bool} → Compared b t (waitingText (minusIn t) (shapeIn t) (classIn t))
+    pub its-text : lineText (lineOf (r .word)) ≡ lineText (lineIn t)
+    its-text = ap (λ (l : Line). lineText l) its-line
+
+    pub its-storable : StorableLine degreeLimit (lineOf (r .word))
+    its-storable =
+        subst (λ (l : Line). StorableLine degreeLimit l) (sym its-line)
+        (told-storable degreeLimit small plain-faithful t refl (its-limits f .0) (its-limits f .1))
+
+    pub waiting-fits : length (lineText (lineOf (r .word))) ≤ lineRoom
+    waiting-fits = plain-line-short (lineOf (r .word)) its-storable
+
+    pub waiting-read : {b : Bool} → Compared b t (lineText (lineIn t))
         → ReadWaiting t (record { formed = b; word = r .word })
-    waiting-read {b} c = record {
-      formed = same-test b (isWaiting degreeLimit t)
-          (λ e. waiting-is plainForm degreeLimit t (record {
-            fits = refl;
-            shape = its-limits f .0;
-            class = its-limits f .1;
-            whole = c .0 e ∙ ap (λ b. waitingText b (shapeIn t) (classIn t)) (sym (sign-told (minusIn t)));
-          }))
-          (λ w. c .1 (signed-whole (is-waiting plainForm degreeLimit t w)));
+    waiting-read c = record {
+      formed = compared plain-faithful t refl (its-limits f .0) (its-limits f .1) c;
       word = λ e. read .word f;
     }

@@ -2,13 +2,13 @@
 -- only"). A line of text is of its form where it is exactly the text of what is read off it (Reading/OfForm: there is
 -- something whose text it is).
 --   inLimit limit ps              ps is a partition of a degree within the limit
---   isNumber name bound t         t is a line of this name and a number below a bound; isInteger, and a signed number of
---                                 64 bits; isList, and the parts of a partition within the limit
+--   isNumber name bound t         t is a line of this name and a number below a bound; isInteger, and a signed number
+--                                 of 64 bits; isList, and the parts of a partition within the limit
 --   shapeIn, classIn              what is read off the text of a waiting line; weightBy f, its weight
 --   isWaitingBy f limit t         whether it is of its form
 --   lineBy f t                    the waiting line that t is read as
 --   bodyBy f text                 the lines of the text behind those that the form has in front
---   atBy f text i                 line i of these, from 0, and nothing past the last; followingBy f text, those from 6 on
+--   atBy f text i                 line i of these, from 0, and nothing past the last; followingBy f text, from 6 on
 --   frontFaults k front ts        a check for each line in front that is not the one of ts, numbered from k
 --   lineFaultsBy f limit k ts     a check for each line that is not the text of a waiting line, numbered from k
 --   headFaultsBy f limit text     the checks of the first six lines behind those in front
@@ -88,7 +88,10 @@ module _ (f : Form) where
   abbrev pub headFaultsBy : ℕ → Text → List Check
   headFaultsBy limit text =
       (not (isNumber (ascii "degree=") (2 ^ 64) (atBy text 0)), n + 1)
-      ∷ (isList limit (ascii "shape=") (atBy text 1) && not (numberIn (atBy text 0) =? degree (listIn (atBy text 1))), n + 1)
+      ∷ (
+        isList limit (ascii "shape=") (atBy text 1) && not (numberIn (atBy text 0) =? degree (listIn (atBy text 1))),
+        n + 1,
+      )
       ∷ (not (isList limit (ascii "shape=") (atBy text 1)), n + 2)
       ∷ (not (isList limit (ascii "class=") (atBy text 2)), n + 3)
       ∷ (not (isNumber (ascii "steps=") (2 ^ 63) (atBy text 3)), n + 4)

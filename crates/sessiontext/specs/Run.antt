@@ -3,8 +3,8 @@
 -- latest slip and what is lent handed on, the page and, in the gathered mode, its column. A commit is handed any strip,
 -- whether it was previewed or not. An accepted opening ends a run, and so does an accepted load of a text that was not
 -- saved in it. L is what is lent; a form f has a mode, and what that mode lends.
---   Call L                    a call: its arguments, the strip that it was lent among them, its answer, and what was lent
---                             as it returned
+--   Call L                    a call: its arguments, the strip that it was lent among them, its answer, and what was
+--                             lent as it returned
 --   Standing L                where a run stands: its slip and what is lent, how many accepted commits count, and the
 --                             texts that were saved, the latest first, each with the count at its save; standing .., by
 --                             its fields
@@ -35,6 +35,7 @@ pub mod Leads
 pub mod Kept
 pub mod Back
 pub mod Demand3
+pub mod Modes
 pub mod Always
 pub mod Requests
 pub mod Counted

@@ -9,8 +9,8 @@
 --   valueText w shape class       the text w, shape and class, set apart by semicolons; weightedText w .., that line
 --   waitingText minus ..          the same with a sign
 --   lineTextBy f l                the line of text for the waiting line l, by the form f; lineText, by the plain one
---   sessionLinesBy f slip lines   the lines of text for a slip and its waiting lines; sessionTextBy, one after the other;
---                                 sessionLines, sessionText, by the plain form
+--   sessionLinesBy f slip lines   the lines of text for a slip and its waiting lines; sessionTextBy, one after the
+--                                 other; sessionLines, sessionText, by the plain form
 use lib.Signed.{nonNeg}
 use Rattle.theory.specs.Basics.{Bool, true, not, cond, List, [], _∷_, _++_, map, length, _^_, ℤ, pos, negsuc, natAbs}
 use Rattle.theory.specs.Basics.{_<?_, signed, joined}

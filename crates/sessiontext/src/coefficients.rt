@@ -9,7 +9,7 @@ ghost use Rattle.text.specs.Reading.{linesOf};
 ghost use Rattle.sessiontext.specs.SessionText.{gatheredForm};
 ghost use Rattle.sessiontext.specs.Reading.{lineFaultsBy};
 ghost use Rattle.sessiontext.specs.Reading.Forms.{WaitingBy};
-ghost use Rattle.sessiontext.specs.Private.Weighted.{ReadWeighted, PutDown};
+ghost use Rattle.sessiontext.specs.Private.Weighted.{ToldWeighted, ReadWeighted, PutDown};
 use super::numbers;
 use super::waiting;
 use super::weighted;
@@ -21,36 +21,36 @@ pub struct WeightedRead {
     pub coefficient: i64,
 }
 
+// What stands in the text of a waiting line, whatever its form: its word with a clear sign digit and its coefficient,
+// if 64 bits hold that and shape and class are partitions within the limit.
+fn line_in(line: &[u8]) -> WeightedRead
+    ensures { λ r. ⌜ ToldWeighted (now (line .entry)) r ⌝ }
+{
+    let read = waiting::word_in(line);
+    let first = reading::find(59, line, 0);
+    let weight = numbers::integer_in(&line[..first]);
+    WeightedRead {
+        formed: waiting::both(weight.formed, read.formed),
+        word: read.word % 0x8000_0000_0000_0000,
+        coefficient: weight.number,
+    }
+}
+
 // A waiting line. Its word is that of the line with its sign left out.
 fn waiting_line(line: &[u8]) -> WeightedRead
     ensures { λ r. ⌜ ReadWeighted (now (line .entry)) r ⌝ }
 {
-    let mut rows = [0u8; 16];
-    let mut cycles = [0u8; 16];
-    let read = waiting::parts_in(line, &mut rows, &mut cycles);
-    let first = reading::find(59, line, 0);
-    let weight = numbers::integer_in(&line[..first]);
-    if !waiting::both(weight.formed, read.formed) {
-        return WeightedRead {
-            formed: false,
-            word: 0,
-            coefficient: 0,
-        };
+    let read = line_in(line);
+    if !read.formed {
+        return read;
     }
-    let row_count = read.rows;
-    let cycle_count = read.cycles;
-    let coefficient = weight.number;
+    let word = read.word;
+    let coefficient = read.coefficient;
     let mut own = [0u8; weighted::LINE_ROOM];
-    let end = weighted::waiting(
-        coefficient,
-        &rows[..row_count],
-        &cycles[..cycle_count],
-        &mut own,
-        0,
-    );
+    let end = weighted::line(word, coefficient, &mut own, 0);
     WeightedRead {
         formed: check::same(line, &own[..end]),
-        word: read.word % 0x8000_0000_0000_0000,
+        word,
         coefficient,
     }
 }
@@ -89,7 +89,7 @@ pub fn put(text: &[u8], start: usize, page: &mut [u64], column: &mut [i64])
     let mut count = 0;
     while at < text.len() {
         let end = reading::line_end(text, at);
-        let read = waiting_line(&text[at..end]);
+        let read = line_in(&text[at..end]);
         page[count] = read.word;
         let coefficient = read.coefficient;
         column[count] = coefficient;

@@ -2,8 +2,7 @@
 // `mode=gathered` before `degree` and the coefficient, with a minus where it is negative, in place of the sign").
 ghost use mathlib.Core.Path.{_≡_};
 ghost use Prim.Native.Nat.{_≤_};
-ghost use lib.IntN.{pos};
-ghost use Rattle.theory.specs.Basics.{length, drop, take, replicate, _++_, _-_, _≤?_};
+ghost use Rattle.theory.specs.Basics.{length, drop, _≤?_};
 ghost use Rattle.theory.specs.Limits.{degreeLimit, pageLimit};
 ghost use Rattle.words.specs.Answers.{Outcome};
 ghost use Rattle.text.specs.Reading.{linesOf};
@@ -25,6 +24,7 @@ use super::weighted;
 use pages::GATHERED;
 use pages::PAGE_LIMIT;
 use pages::Slip;
+use pages::clearing;
 use pages::gathering;
 use words::CountAnswer;
 
@@ -142,19 +142,6 @@ fn sound(text: &[u8], start: usize, slip: Slip) -> bool
     sound_on(text, start, slip, &mut page, &mut column)
 }
 
-// Every coefficient from a place on becomes 0.
-fn clear(column: &mut [i64], from: usize)
-    requires { ⌜ from ≤ length (now column) ⌝ }
-    ensures { λ _. ⌜ now (column .exit)
-        ≡ take from (now (column .entry)) ++ replicate (length (now (column .entry)) - from) (pos 0) ⌝ }
-{
-    let mut at = from;
-    while at < column.len() {
-        column[at] = 0;
-        at += 1;
-    }
-}
-
 // The session whose text this is: its slip, its lines on page and coefficients and zeros after them. All is judged
 // before the first word is written. Refuses 6, 21, 16 with the first line at fault, 10, 7.
 pub fn load(text: &[u8], page: &mut [u64], coefficients: &mut [i64]) -> Loaded
@@ -184,8 +171,8 @@ pub fn load(text: &[u8], page: &mut [u64], coefficients: &mut [i64]) -> Loaded
         return unloaded(7, 0);
     }
     put(text, start, page, coefficients);
-    super::clear(page, slip.lines);
-    clear(coefficients, slip.lines);
+    clearing::words(page, slip.lines);
+    clearing::coefficients(coefficients, slip.lines);
     Loaded {
         refused: 0,
         line: 0,

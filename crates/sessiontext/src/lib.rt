@@ -2,16 +2,17 @@
 // nothing.
 ghost use mathlib.Core.Path.{_≡_};
 ghost use Prim.Native.Nat.{_≤_};
-ghost use Rattle.theory.specs.Basics.{length, map, take, replicate, _++_, _-_, _≤?_};
+ghost use Rattle.theory.specs.Basics.{length, map, _≤?_};
 ghost use Rattle.theory.specs.Limits.{degreeLimit, pageLimit};
 ghost use Rattle.words.specs.Answers.{Outcome};
 ghost use Rattle.pages.specs.Page.{lineOf, blank};
 ghost use Rattle.sessiontext.specs.SessionText.{sessionText};
 ghost use Rattle.sessiontext.specs.SessionText.Storable.{Storable};
 ghost use Rattle.sessiontext.specs.Calls.{loaded, saveInto, loadInto};
+use pages::BLANK;
 use pages::PAGE_LIMIT;
-use pages::PLAIN;
 use pages::Slip;
+use pages::clearing;
 use pages::soundness;
 use words::CountAnswer;
 
@@ -80,27 +81,7 @@ fn unloaded(number: u8, line: usize) -> Loaded
     Loaded {
         refused: number,
         line,
-        slip: Slip {
-            shape: 0,
-            class: 0,
-            settled: 0,
-            lines: 0,
-            steps: 0,
-            mode: PLAIN,
-        },
-    }
-}
-
-// Every word from a place on becomes 0.
-fn clear(page: &mut [u64], from: usize)
-    requires { ⌜ from ≤ length (now page) ⌝ }
-    ensures { λ _. ⌜ now (page .exit)
-        ≡ take from (now (page .entry)) ++ replicate (length (now (page .entry)) - from) 0 ⌝ }
-{
-    let mut at = from;
-    while at < page.len() {
-        page[at] = 0;
-        at += 1;
+        slip: BLANK,
     }
 }
 
@@ -129,7 +110,7 @@ pub fn load(text: &[u8], page: &mut [u64]) -> Loaded
         return unloaded(7, 0);
     }
     waiting::put(text, start, page);
-    clear(page, slip.lines);
+    clearing::words(page, slip.lines);
     Loaded {
         refused: 0,
         line: 0,

@@ -21,16 +21,7 @@ use pages::lines;
 use pages::soundness;
 use text::reading;
 
-// What stands in the text of a waiting line: whether shape and class are partitions within the limit, and then the sign,
-// how many parts they have, and the line's word.
-pub struct LineParts {
-    pub formed: bool,
-    pub minus: bool,
-    pub rows: usize,
-    pub cycles: usize,
-    pub word: u64,
-}
-
+// What is read off the text of a waiting line: whether it is formed, and then the line's word.
 pub struct LineRead {
     pub formed: bool,
     pub word: u64,
@@ -59,24 +50,22 @@ pub fn both(a: bool, b: bool) -> bool
     if a { b } else { false }
 }
 
-// What stands in the text of a waiting line, whatever its form: the shape's parts and the class's at the front of two
-// columns, if both are partitions within the limit, and the word of the line.
-pub fn parts_in(line: &[u8], rows: &mut [u8], cycles: &mut [u8]) -> LineParts
-    requires { ⌜ (length (now rows) ≡ 16) × (length (now cycles) ≡ 16) ⌝ }
-    ensures { λ r. ⌜ ReadLine (now (line .entry)) r (now (rows .exit)) (now (cycles .exit)) ⌝ }
+// What stands in the text of a waiting line, whatever its form: the line's word, if shape and class are partitions
+// within the limit.
+pub fn word_in(line: &[u8]) -> LineRead
+    ensures { λ r. ⌜ ReadLine (now (line .entry)) r ⌝ }
 {
     let first = reading::find(59, line, 0);
     let start = past(first, line);
     let second = reading::find(59, line, start);
     let last = past(second, line);
     let minus = reading::find(45, &line[..first], 0) < first;
-    let shape = shape_in(&line[start..second], rows);
-    let class = class_in(&line[last..], cycles);
-    LineParts {
+    let mut rows = [0u8; 16];
+    let shape = shape_in(&line[start..second], &mut rows);
+    let mut cycles = [0u8; 16];
+    let class = class_in(&line[last..], &mut cycles);
+    LineRead {
         formed: both(shape.formed, class.formed),
-        minus,
-        rows: shape.count,
-        cycles: class.count,
         word: lines::word(minus, shape.word, class.word),
     }
 }
@@ -85,28 +74,19 @@ pub fn parts_in(line: &[u8], rows: &mut [u8], cycles: &mut [u8]) -> LineParts
 fn waiting(line: &[u8]) -> LineRead
     ensures { λ r. ⌜ ReadWaiting (now (line .entry)) r ⌝ }
 {
-    let mut rows = [0u8; 16];
-    let mut cycles = [0u8; 16];
-    let read = parts_in(line, &mut rows, &mut cycles);
+    let read = word_in(line);
     if !read.formed {
         return LineRead {
             formed: false,
             word: 0,
         };
     }
-    let row_count = read.rows;
-    let cycle_count = read.cycles;
+    let word = read.word;
     let mut own = [0u8; writing::LINE_ROOM];
-    let end = writing::waiting(
-        read.minus,
-        &rows[..row_count],
-        &cycles[..cycle_count],
-        &mut own,
-        0,
-    );
+    let end = writing::line(word, &mut own, 0);
     LineRead {
         formed: check::same(line, &own[..end]),
-        word: read.word,
+        word,
     }
 }
 

@@ -4,10 +4,9 @@ ghost use mathlib.Core.Path.{_≡_};
 ghost use Rattle.theory.specs.Basics.{length, joined};
 ghost use Rattle.theory.specs.Basics.Laws.{Each};
 ghost use Rattle.theory.specs.Limits.{degreeLimit};
-ghost use Rattle.text.specs.Text.{integer};
 ghost use Rattle.text.specs.Wrote.{Wrote};
 ghost use Rattle.pages.specs.Mode.{weighted, alongside};
-ghost use Rattle.sessiontext.specs.SessionText.{gatheredForm, weightedText, lineTextBy, sessionTextBy};
+ghost use Rattle.sessiontext.specs.SessionText.{gatheredForm, lineTextBy, sessionTextBy};
 ghost use Rattle.sessiontext.specs.SessionText.Faithful.Gathered.{gathered-faithful};
 ghost use Rattle.sessiontext.specs.SessionText.Storable.{StorableLineBy, StorableBy};
 use super::writing;
@@ -17,18 +16,8 @@ use text::numbers;
 // How many bytes are enough for the text of a waiting line.
 pub const LINE_ROOM: usize = 91;
 
-// The line of text for a waiting line, by its coefficient, shape and class.
-pub fn waiting(coefficient: i64, shape: &[u8], class: &[u8], out: &mut [u8], at: usize) -> usize
-    ensures { λ r. ⌜ Wrote (weightedText (integer coefficient) (now (shape .entry)) (now (class .entry)))
-        at (now (out .entry)) r (now (out .exit)) ⌝ }
-{
-    let end = text::writing::put(b"line=", out, at);
-    let end = numbers::integer(coefficient, out, end);
-    writing::behind(shape, class, out, end)
-}
-
 // The line of text for a waiting line.
-fn line(line: u64, coefficient: i64, out: &mut [u8], at: usize) -> usize
+pub fn line(line: u64, coefficient: i64, out: &mut [u8], at: usize) -> usize
     requires { ⌜ StorableLineBy gathered-faithful degreeLimit (weighted line coefficient) ⌝ }
     ensures { λ r. ⌜ Wrote (lineTextBy gatheredForm (weighted line coefficient))
         at (now (out .entry)) r (now (out .exit)) ⌝ }

@@ -10,7 +10,7 @@ ghost use Rattle.theory.specs.Limits.{degreeLimit};
 ghost use Rattle.theory.specs.Refusals.Laws.{Within, WithinClass};
 ghost use Rattle.text.specs.Text.{decimal, listText, field};
 ghost use Rattle.text.specs.Wrote.{Wrote};
-ghost use Rattle.sessiontext.specs.SessionText.{held, signText, waitingText, lineText, sessionText};
+ghost use Rattle.sessiontext.specs.SessionText.{held, signText, lineText, sessionText};
 ghost use Rattle.sessiontext.specs.SessionText.Laws.{askedText, reachedText, behindText};
 ghost use Rattle.sessiontext.specs.SessionText.Storable.{StorableLine, Forward, Storable};
 ghost use Rattle.pages.specs.Page.{lineOf};
@@ -33,7 +33,7 @@ fn sign(minus: bool, out: &mut [u8], at: usize) -> usize
 }
 
 // What stands behind the weight of a waiting line: shape and class, a semicolon in front of each, and the newline.
-pub fn behind(shape: &[u8], class: &[u8], out: &mut [u8], at: usize) -> usize
+fn behind(shape: &[u8], class: &[u8], out: &mut [u8], at: usize) -> usize
     ensures { λ r. ⌜ Wrote (behindText (now (shape .entry)) (now (class .entry)))
         at (now (out .entry)) r (now (out .exit)) ⌝ }
 {
@@ -42,16 +42,6 @@ pub fn behind(shape: &[u8], class: &[u8], out: &mut [u8], at: usize) -> usize
     let end = writing::byte(59, out, end);
     let end = lists::list(class, out, end);
     writing::byte(10, out, end)
-}
-
-// The line of text for a waiting line, by its sign, shape and class.
-pub fn waiting(minus: bool, shape: &[u8], class: &[u8], out: &mut [u8], at: usize) -> usize
-    ensures { λ r. ⌜ Wrote (waitingText minus (now (shape .entry)) (now (class .entry)))
-        at (now (out .entry)) r (now (out .exit)) ⌝ }
-{
-    let end = writing::put(b"line=", out, at);
-    let end = sign(minus, out, end);
-    behind(shape, class, out, end)
 }
 
 // What stands behind the weight of a waiting line, by the line's word.
@@ -68,7 +58,7 @@ pub fn words_behind(line: u64, out: &mut [u8], at: usize) -> usize
 }
 
 // The line of text for a waiting line.
-fn line(line: u64, out: &mut [u8], at: usize) -> usize
+pub fn line(line: u64, out: &mut [u8], at: usize) -> usize
     requires { ⌜ StorableLine degreeLimit (lineOf line) ⌝ }
     ensures { λ r. ⌜ Wrote (lineText (lineOf line)) at (now (out .entry)) r (now (out .exit)) ⌝ }
 {

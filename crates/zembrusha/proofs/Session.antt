@@ -1,10 +1,11 @@
 -- A session's calls are those of the contracts: whatever meets the contract of an export, as Rattle reads it
 -- (`Reads.Post`), goes in front of a run, or begins a session.
---   at-hand slip page counted saves   a run stands so, its slip and page those that an export was handed
+--   InFront f calls end at call   the call, made at `at`, goes in front of the calls that lead to `end`
+--   at-hand counted saves slip x  a run stands so, slip and what is lent those that an export was handed
 use mathlib.Core.Path.{_≡_}
 use denote.Ref.{now}
 use Rattle.theory.specs.Basics.{List, [], _∷_, ℕ, ℤ}
-use Rattle.sessiontext.specs.SessionText.{plainForm, gatheredForm}
+use Rattle.sessiontext.specs.SessionText.{Form, plainForm, gatheredForm}
 use Rattle.sessiontext.specs.Run.{Saves, countsAt, Standing, standing, after, begun}
 use Rattle.zembrusha.specs.declared.Slip.{Slip}
 use Rattle.zembrusha.specs.Exports.{given}
@@ -27,6 +28,15 @@ use Rattle.zembrusha.proofs.gatherings.zembrusha_gathered_load.Reads as
 use Rattle.zembrusha.proofs.texts.zembrusha_save.Reads as save-export
 use Rattle.zembrusha.proofs.texts.zembrusha_load.Reads as load-export
 
+-- a call in front of a run that goes on from where it leads
+abbrev InFront : (f : Form) → List (Call (f .mode .Lent)) → (end at : Standing (f .mode .Lent)) → Call (f .mode .Lent)
+    → Type 0
+InFront f calls end at call = Run f (after at (theirNext f at call)) calls end → Run f at (call ∷ calls) end
+
+abbrev at-hand : {L : Type 0} → ℕ → Saves → Slip → L → Standing L
+at-hand counted saves slip lent = standing (given slip) lent counted saves
+
+-- ---- in the plain mode
 module _ (calls : List (Call (List ℕ))) (end : Standing (List ℕ)) where
   pub session-opens : (κs : _) (a : _) (r : _) (s : _) → open-export.Post κs a r s → r .refused ≡ 0
       → Run plainForm (begun (given (r .slip)) (now (s .1 .1 .0))) calls end
@@ -34,55 +44,53 @@ module _ (calls : List (Call (List ℕ))) (end : Standing (List ℕ)) where
   session-opens κs a r s o accepted run =
       record { answer = r; lent = now (s .1 .1 .0); promised = o; accepted = accepted; goes-on = run }
 
-  -- a call in front of a run that goes on from where it leads
-  abbrev InFront : Standing (List ℕ) → Call (List ℕ) → Type 0
-  InFront at call = Run plainForm (after at (theirNext plainForm at call)) calls end → Run plainForm at (call ∷ calls) end
-
   module _ (counted : ℕ) (saves : Saves) where
-    abbrev at-hand : Slip → List ℕ → Standing (List ℕ)
-    at-hand slip page = standing (given slip) page counted saves
-
     pub run-opens : (κs : _) (a : _) (r : _) (s : _) (u : Slip) → open-export.Post κs a r s → (r .refused ≡ 0 → ⊥)
-        → InFront (at-hand u (now (a .1 .1 .0))) (opened (a .0) (a .1 .0) r (now (s .1 .1 .0)))
+        → InFront plainForm calls end (at-hand counted saves u (now (a .1 .1 .0)))
+        (opened (a .0) (a .1 .0) r (now (s .1 .1 .0)))
     unfolding Run
     run-opens κs a r s u o refused run = (o, refused, run)
 
     pub run-previews : (κs : _) (a : _) (r : _) (s : _) → preview-export.Post κs a r s
-        → InFront (at-hand (a .0) (now (a .1 .0)))
+        → InFront plainForm calls end (at-hand counted saves (a .0) (now (a .1 .0)))
         (previewed (a .1 .1 .0) (a .1 .1 .1 .0) (now (a .1 .1 .1 .1 .0)) r (now (s .1 .1 .1 .1 .0)))
     unfolding Run
     run-previews κs a r s o run = (o, tt, run)
 
     pub run-commits : (κs : _) (a : _) (r : _) (s : _) → commit-export.Post κs a r s
-        → InFront (at-hand (a .0) (now (a .1 .0)))
+        → InFront plainForm calls end (at-hand counted saves (a .0) (now (a .1 .0)))
         (committed (a .1 .1 .0) (a .1 .1 .1 .0) (now (a .1 .1 .1 .1 .0)) r (now (s .1 .0)))
     unfolding Run
     run-commits κs a r s o run = (o, tt, run)
 
     pub run-watches-whole : (κs : _) (a : _) (r : _) (s : _) → whole-export.Post κs a r s
-        → InFront (at-hand (a .0) (now (a .1 .0))) (watched-whole (a .1 .1 .0) (a .1 .1 .1 .0) r)
+        → InFront plainForm calls end (at-hand counted saves (a .0) (now (a .1 .0)))
+        (watched-whole (a .1 .1 .0) (a .1 .1 .1 .0) r)
     unfolding Run
     run-watches-whole κs a r s o run = (o, tt, run)
 
     pub run-watches-ratio : (κs : _) (a : _) (r : _) (s : _) → ratio-export.Post κs a r s
-        → InFront (at-hand (a .0) (now (a .1 .0))) (watched-ratio (a .1 .1 .0) (a .1 .1 .1 .0) r)
+        → InFront plainForm calls end (at-hand counted saves (a .0) (now (a .1 .0)))
+        (watched-ratio (a .1 .1 .0) (a .1 .1 .1 .0) r)
     unfolding Run
     run-watches-ratio κs a r s o run = (o, tt, run)
 
     pub run-watches-refusal : (κs : _) (a : _) (r : _) (s : _) → refusal-export.Post κs a r s
-        → InFront (at-hand (a .0) (now (a .1 .0))) (watched-refusal (a .1 .1 .0) (a .1 .1 .1 .0) r)
+        → InFront plainForm calls end (at-hand counted saves (a .0) (now (a .1 .0)))
+        (watched-refusal (a .1 .1 .0) (a .1 .1 .1 .0) r)
     unfolding Run
     run-watches-refusal κs a r s o run = (o, tt, run)
 
     pub run-saves : (κs : _) (a : _) (r : _) (s : _) → save-export.Post κs a r s
-        → InFront (at-hand (a .0) (now (a .1 .0))) (saved (now (a .1 .1 .0)) r (now (s .1 .1 .0)))
+        → InFront plainForm calls end (at-hand counted saves (a .0) (now (a .1 .0)))
+        (saved (now (a .1 .1 .0)) r (now (s .1 .1 .0)))
     unfolding Run
     run-saves κs a r s o run = (o, tt, run)
 
     -- a load that is refused, or of a text that was saved in the run
     pub run-loads : (κs : _) (a : _) (r : _) (s : _) (u : Slip) → load-export.Post κs a r s
         → (r .refused ≡ 0 → countsAt (now (a .0)) saves ≡ [] → ⊥)
-        → InFront (at-hand u (now (a .1 .0))) (loaded (now (a .0)) r (now (s .1 .0)))
+        → InFront plainForm calls end (at-hand counted saves u (now (a .1 .0))) (loaded (now (a .0)) r (now (s .1 .0)))
     unfolding Run
     run-loads κs a r s u o known run = (o, known, run)
 
@@ -103,53 +111,46 @@ module _ (calls : List (Call Lent)) (end : Standing Lent) where
         goes-on = run;
       }
 
-  abbrev GatheredInFront : Standing Lent → Call Lent → Type 0
-  GatheredInFront at call =
-      Run gatheredForm (after at (theirNext gatheredForm at call)) calls end → Run gatheredForm at (call ∷ calls) end
-
   module _ (counted : ℕ) (saves : Saves) where
-    abbrev gathered-at-hand : Slip → List ℕ → List ℤ → Standing Lent
-    gathered-at-hand slip page column = standing (given slip) (page, column) counted saves
-
     pub gathered-run-opens : (κs : _) (a : _) (r : _) (s : _) (u : Slip) → gathered-open-export.Post κs a r s
         → (r .refused ≡ 0 → ⊥)
-        → GatheredInFront (gathered-at-hand u (now (a .1 .1 .0)) (now (a .1 .1 .1 .0)))
+        → InFront gatheredForm calls end (at-hand counted saves u ((now (a .1 .1 .0)), (now (a .1 .1 .1 .0))))
         (opened (a .0) (a .1 .0) r (now (s .1 .1 .0), now (s .1 .1 .1 .0)))
     unfolding Run
     gathered-run-opens κs a r s u o refused run = (o, refused, run)
 
     pub gathered-run-previews : (κs : _) (a : _) (r : _) (s : _) → gathered-preview-export.Post κs a r s
-        → GatheredInFront (gathered-at-hand (a .0) (now (a .1 .0)) (now (a .1 .1 .0)))
+        → InFront gatheredForm calls end (at-hand counted saves (a .0) ((now (a .1 .0)), (now (a .1 .1 .0))))
         (previewed (a .1 .1 .1 .0) (a .1 .1 .1 .1 .0) (now (a .1 .1 .1 .1 .1 .0)) r (now (s .1 .1 .1 .1 .1 .0)))
     unfolding Run
     gathered-run-previews κs a r s o run = (o, tt, run)
 
     pub gathered-run-commits : (κs : _) (a : _) (r : _) (s : _) → gathered-commit-export.Post κs a r s
-        → GatheredInFront (gathered-at-hand (a .0) (now (a .1 .0)) (now (a .1 .1 .0)))
+        → InFront gatheredForm calls end (at-hand counted saves (a .0) ((now (a .1 .0)), (now (a .1 .1 .0))))
         (committed (a .1 .1 .1 .0) (a .1 .1 .1 .1 .0) (now (a .1 .1 .1 .1 .1 .0)) r (now (s .1 .0), now (s .1 .1 .0)))
     unfolding Run
     gathered-run-commits κs a r s o run = (o, tt, run)
 
     pub gathered-run-watches-whole : (κs : _) (a : _) (r : _) (s : _) → gathered-whole-export.Post κs a r s
-        → GatheredInFront (gathered-at-hand (a .0) (now (a .1 .0)) (now (a .1 .1 .0)))
+        → InFront gatheredForm calls end (at-hand counted saves (a .0) ((now (a .1 .0)), (now (a .1 .1 .0))))
         (watched-whole (a .1 .1 .1 .0) (a .1 .1 .1 .1 .0) r)
     unfolding Run
     gathered-run-watches-whole κs a r s o run = (o, tt, run)
 
     pub gathered-run-watches-ratio : (κs : _) (a : _) (r : _) (s : _) → gathered-ratio-export.Post κs a r s
-        → GatheredInFront (gathered-at-hand (a .0) (now (a .1 .0)) (now (a .1 .1 .0)))
+        → InFront gatheredForm calls end (at-hand counted saves (a .0) ((now (a .1 .0)), (now (a .1 .1 .0))))
         (watched-ratio (a .1 .1 .1 .0) (a .1 .1 .1 .1 .0) r)
     unfolding Run
     gathered-run-watches-ratio κs a r s o run = (o, tt, run)
 
     pub gathered-run-watches-refusal : (κs : _) (a : _) (r : _) (s : _) → gathered-refusal-export.Post κs a r s
-        → GatheredInFront (gathered-at-hand (a .0) (now (a .1 .0)) (now (a .1 .1 .0)))
+        → InFront gatheredForm calls end (at-hand counted saves (a .0) ((now (a .1 .0)), (now (a .1 .1 .0))))
         (watched-refusal (a .1 .1 .1 .0) (a .1 .1 .1 .1 .0) r)
     unfolding Run
     gathered-run-watches-refusal κs a r s o run = (o, tt, run)
 
     pub gathered-run-saves : (κs : _) (a : _) (r : _) (s : _) → gathered-save-export.Post κs a r s
-        → GatheredInFront (gathered-at-hand (a .0) (now (a .1 .0)) (now (a .1 .1 .0)))
+        → InFront gatheredForm calls end (at-hand counted saves (a .0) ((now (a .1 .0)), (now (a .1 .1 .0))))
         (saved (now (a .1 .1 .1 .0)) r (now (s .1 .1 .1 .0)))
     unfolding Run
     gathered-run-saves κs a r s o run = (o, tt, run)
@@ -157,7 +158,7 @@ module _ (calls : List (Call Lent)) (end : Standing Lent) where
     -- a load that is refused, or of a text that was saved in the run
     pub gathered-run-loads : (κs : _) (a : _) (r : _) (s : _) (u : Slip) → gathered-load-export.Post κs a r s
         → (r .refused ≡ 0 → countsAt (now (a .0)) saves ≡ [] → ⊥)
-        → GatheredInFront (gathered-at-hand u (now (a .1 .0)) (now (a .1 .1 .0)))
+        → InFront gatheredForm calls end (at-hand counted saves u ((now (a .1 .0)), (now (a .1 .1 .0))))
         (loaded (now (a .0)) r (now (s .1 .0), now (s .1 .1 .0)))
     unfolding Run
     gathered-run-loads κs a r s u o known run = (o, known, run)

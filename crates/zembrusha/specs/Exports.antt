@@ -4,8 +4,8 @@
 --   ofList answer                   of a list, the index beside it; listed outcome, with the lent list as it is
 --   given slip                      the slip that the calculator is handed; slipOver slip, one that it hands back
 --   handedOver k slip               with the refusal number k; loadedOver k line slip, of a load, with the text's line
---   handedRun outcome               a handed slip and what is lent: the slip handed over, the other as it is; loadedRun so
---                                   too
+--   handedRun outcome               a handed slip and what is lent: the slip handed over, the other as it is; loadedRun
+--                                   so too
 --   number value                    the whole number that a watch gives, 0 where it gives none; fraction, the ratio
 --   counted outcome                 an answer and a lent run: the answer handed over, the run as it is
 --   NumberOf Promised r             r is the number of an answer that is promised

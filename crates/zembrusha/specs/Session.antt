@@ -1,14 +1,14 @@
--- Sessions as C makes them (demand 3, through the exports), by a form f: after an accepted opening any exported previews,
--- commits, watches, saves, loads and refused openings, each meeting its contract, the latest slip and what is lent
--- handed on. L is what is lent.
+-- Sessions as C makes them (demand 3, through the exports), by a form f: after an accepted opening any exported
+-- previews, commits, watches, saves, loads and refused openings, each meeting its contract, the latest slip and what is
+-- lent handed on. L is what is lent.
 --   Call L               a call of an export: its arguments, its answer, and what was lent as it returned
 --   taken answer         the calculator's answer that was handed over as this one; takenCount and takenLoad so too
 --   Promised f s x call  the call, made with the slip that is given as s on x, meets its contract
 --   theirs f s x call    the calculator's call that asks and answers the same; of a watch's answer an export gives one
 --                        part: the whole number, the ratio or the refusal number; theirNext now call, made at `now`
 --   Run f now calls end  from `now` the calls lead to `end`; a run stands where the calculator's does
---   Session f ..         an accepted `zembrusha_open`, or in the gathered mode `zembrusha_gathered_open`, of a shape on a
---                        class, on x, and a run from there
+--   Session f ..         an accepted `zembrusha_open`, or in the gathered mode `zembrusha_gathered_open`, of a shape on
+--                        a class, on x, and a run from there
 --   first s              where the session s stands when it was opened
 --   allTheirs now calls  the calculator's calls that ask and answer the same, one after the other
 use mathlib.Core.Path.{_≡_}

@@ -45,8 +45,8 @@ pub extern "C" fn zembrusha_gathered_preview(
     strip: &mut [u64],
 ) -> Number
     ensures { λ r. ⌜ Outcome
-        (counted (previewIn gatheredMode degreeLimit (given slip) (now (page .entry), now (coefficients .entry)) line cycle
-        (now (strip .entry)))) r (now (strip .exit)) ⌝ }
+        (counted (previewIn gatheredMode degreeLimit (given slip) (now (page .entry), now (coefficients .entry))
+        line cycle (now (strip .entry)))) r (now (strip .exit)) ⌝ }
 {
     let own = handing::slip_in(slip);
     handing::of_count(gathered::preview(own, page, coefficients, line as usize, cycle, strip))
@@ -63,8 +63,8 @@ pub extern "C" fn zembrusha_gathered_commit(
     strip: &[u64],
 ) -> Handed
     ensures { λ r. ⌜ Outcome
-        (handedRun (commitIn gatheredMode degreeLimit (given slip) (now (page .entry), now (coefficients .entry)) line cycle
-        (now (strip .entry)))) r (now (page .exit), now (coefficients .exit)) ⌝ }
+        (handedRun (commitIn gatheredMode degreeLimit (given slip) (now (page .entry), now (coefficients .entry))
+        line cycle (now (strip .entry)))) r (now (page .exit), now (coefficients .exit)) ⌝ }
 {
     let own = handing::slip_in(slip);
     let committed = gathered::commit(own, page, coefficients, line as usize, cycle, strip);

@@ -12,8 +12,8 @@ use Rattle.characters.specs.Step.{nextLinesIn, nextSlipIn, previewIn, co
 use Rattle.characters.specs.Examples.{Examples}
 
 pub examples : Examples
-unfolding character digits word goodShapeWord hooks hookWords hookLines factorial S soundLine soundLines soundIn openingIn
-    nextLinesIn nextSlipIn previewIn commitIn
+unfolding character digits word goodShapeWord hooks hookWords hookLines factorial S soundLine soundLines soundIn
+    openingIn nextLinesIn nextSlipIn previewIn commitIn
 examples = record {
   E1 = refl;
   E2 = refl;

@@ -6,7 +6,8 @@ use Rattle.theory.specs.Partition.{without}
 use Rattle.theory.specs.ClassWord.{classWord, classOf}
 use Rattle.theory.specs.Refusals.{firstOf, refusedOr}
 use Rattle.pages.specs.declared.Slip.{Slip}
-use Rattle.pages.specs.Page.{waiting, lineAt}
+use Rattle.pages.specs.Page.{lineAt}
+use Rattle.pages.specs.Mode.{waiting}
 use Rattle.characters.specs.declared.sessions.ClassLeft.{ClassLeft}
 use Rattle.characters.specs.Step.{namedChecks}
 

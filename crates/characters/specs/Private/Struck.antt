@@ -6,7 +6,8 @@ use Rattle.theory.specs.Refusals.{firstOf, refusedOr}
 use Rattle.words.specs.Answers.{atFront}
 use Rattle.pages.specs.Line.Weights.{weightOf}
 use Rattle.pages.specs.declared.Slip.{Slip}
-use Rattle.pages.specs.Page.{waiting, lineAt}
+use Rattle.pages.specs.Page.{lineAt}
+use Rattle.pages.specs.Mode.{waiting}
 use Rattle.characters.specs.declared.sessions.Struck.{Struck}
 use Rattle.characters.specs.Step.{settledHooks, namedChecks, newLines}
 

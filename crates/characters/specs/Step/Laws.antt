@@ -23,9 +23,10 @@ use Rattle.pages.specs.Mode.{Mode, waitingIn}
 use Rattle.pages.specs.Sound.{pageChecksIn}
 use Rattle.pages.specs.Sound.Laws.{SoundIn, asked}
 use Rattle.pages.specs.Lawful.{Lawful}
-use Rattle.pages.specs.Lawful.Checks.{numbered-more, numbered-page, passed-page}
+use Rattle.pages.specs.Lawful.Checks.{numbered-more, numbered-page, passed-page, page-passes}
 use Rattle.pages.specs.Lawful.Put.{waiting-put, sound-put}
-use Rattle.characters.specs.Step.{waitingHooks, nextLinesIn, nextSlipIn, namedChecksIn, newLinesIn, commitChecksIn}
+use Rattle.characters.specs.Step.{waitingHooks, nextLinesIn, nextSlipIn, namedChecksIn, newLinesIn}
+use Rattle.characters.specs.Step.{commitChecksIn}
 use Rattle.characters.specs.Step.Strike.{each-waiting}
 use Rattle.characters.specs.Step.Named.{Named, chosen-sound, next-written, next-stands, next-sound, next-worth}
 
@@ -56,7 +57,8 @@ module _ {m : Mode} (law : Lawful m) (limit : ℕ) (slip : Slip) (x : m .Lent) (
   after = nextSlipIn m slip lines line cycle
 
   pub numbered-named : Numbered (namedChecksIn m limit slip x line cycle)
-  numbered-named = numbered-more (pageChecksIn m limit slip x) (rest m slip x line cycle) (numbered-page law limit slip x) refl
+  numbered-named =
+      numbered-more (pageChecksIn m limit slip x) (rest m slip x line cycle) (numbered-page law limit slip x) refl
 
   pub named-on : firstOf (namedChecksIn m limit slip x line cycle) ≡ 0 → NamedOn m limit slip x line cycle
   named-on e =
@@ -117,6 +119,10 @@ module _ {m : Mode} (law : Lawful m) (limit : ℕ) (slip : Slip) (x : m .Lent) (
     pub next-waits : waitingIn m after (m .put next x) ≡ next
     unfolding nextSlipIn
     next-waits = waiting-put law after next x refl (all-written (a .named))
+
+    pub next-passes : firstOf (pageChecksIn m limit after (m .put next x)) ≡ 0
+    next-passes =
+        page-passes law limit after (m .put next x) (law .lent-put next x (a .named .lent) (a .room)) next-sound-in
 
     pub next-worth-in : worth after (waitingIn m after (m .put next x)) ≡ worth slip lines
     next-worth-in = ap (worth after) next-waits ∙ next-worth law limit slip lines line cycle (a .named .named)

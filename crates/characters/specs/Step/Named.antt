@@ -11,8 +11,8 @@ use lib.Signed.{nonNeg}
 use Rattle.theory.specs.Basics.{true, List, _∷_, _++_, length, map, take, drop, ℕ, suc, _+_, _-_, ℤ, pos, negsuc, _+ℤ_}
 use Rattle.theory.specs.Basics.{natAbs, total, sum}
 use Rattle.theory.specs.Basics.Integers.{sums}
-use Rattle.theory.specs.Basics.Laws.{Each, each-append, sum-append}
-use Rattle.theory.specs.Basics.Keep.{each-parts, total-append}
+use Rattle.theory.specs.Basics.Laws.{Each, sum-append}
+use Rattle.theory.specs.Basics.Keep.{each-parts, each-others, total-append}
 use Rattle.theory.specs.Bounds.{factorial}
 use Rattle.theory.specs.Bounds.Laws.{abs-add}
 use Rattle.pages.specs.Line.{Line, signedCharacter}
@@ -31,6 +31,15 @@ pub record Named (limit : ℕ) (slip : Slip) (lines : List Line) (i cycle : ℕ)
   pub soundness : SoundLines limit slip lines
   pub there : i < length lines
   pub has : Has cycle (lineAt lines i)
+
+-- in the plain mode a step leaves as many lines as stayed and as came
+pub next-length : (lines : List Line) (i cycle : ℕ) → i < length lines
+    → length (nextLines lines i cycle) ≡ length lines - 1 + length (waitingHooks cycle (lineAt lines i))
+unfolding nextLinesIn
+next-length lines i cycle there =
+    let split = split-at lines i (lineOf 0) there in
+    simp length-append
+    (omega (arith, ap length split, length-append (take i lines) (lineAt lines i ∷ drop (suc i) lines)))
 
 one-more : (z : ℤ) → nonNeg z ≡ true → (nonNeg (z +ℤ pos 1) ≡ true) × (natAbs (z +ℤ pos 1) ≡ natAbs z + 1)
 one-more (pos n) e = (refl, refl)
@@ -60,12 +69,6 @@ module _ {m : Mode} (law : Lawful m) (limit : ℕ) (slip : Slip) (lines : List L
   lines-split : lines ≡ before ++ chosen ∷ behind
   lines-split = split-at lines i (lineOf 0) (n .there)
 
-  -- what is true of each line is true of each that stays
-  others-each : (P : Line → Type 0) → Each P lines → Each P (before ++ behind)
-  others-each P all =
-      let (first, rest) = each-parts P before (chosen ∷ behind) (rw lines-split at all) in
-      each-append P before behind first (rest .1)
-
   pub chosen-sound : SoundLine (asked slip) chosen
   chosen-sound =
       each-parts (SoundLine (asked slip)) before (chosen ∷ behind) (rw lines-split at (n .soundness .each)) .1 .0
@@ -86,7 +89,7 @@ module _ {m : Mode} (law : Lawful m) (limit : ℕ) (slip : Slip) (lines : List L
   -- ---- the lines that come of it
   pub next-written : Each (law .Written) lines → Each (law .Written) hooks → Each (law .Written) next
   unfolding nextLinesIn
-  next-written all new = law .written-join (before ++ behind) hooks (others-each (law .Written) all) new
+  next-written all new = law .written-join (before ++ behind) hooks (each-others (law .Written) lines i all) new
 
   pub next-stands : m .stands lines ≡ true → m .stands next ≡ true
   unfolding nextLinesIn
@@ -95,7 +98,8 @@ module _ {m : Mode} (law : Lawful m) (limit : ℕ) (slip : Slip) (lines : List L
   next-each : Each (SoundLine (asked slip)) next
   unfolding nextLinesIn
   next-each =
-      law .sound-join (asked slip) (before ++ behind) hooks (others-each (SoundLine (asked slip)) (n .soundness .each))
+      law .sound-join (asked slip) (before ++ behind) hooks
+      (each-others (SoundLine (asked slip)) lines i (n .soundness .each))
       (waiting-sound (asked slip) cycle chosen chosen-sound (n .has))
 
   next-values : values next ≤ values before + values behind + values hooks
@@ -144,12 +148,3 @@ module _ {m : Mode} (law : Lawful m) (limit : ℕ) (slip : Slip) (lines : List L
       ap (λ z. slip .settled +ℤ gone +ℤ z) joined
       ∙ moved (slip .settled) gone first last new
       ∙ ap (λ z. slip .settled +ℤ z) (sym was)
-
--- in the plain mode a step leaves as many lines as stayed and as came
-pub next-length : (limit : ℕ) (slip : Slip) (lines : List Line) (i cycle : ℕ) → Named limit slip lines i cycle
-    → length (nextLines lines i cycle) ≡ length lines - 1 + length (waitingHooks cycle (lineAt lines i))
-unfolding nextLinesIn
-next-length limit slip lines i cycle n =
-    let split = split-at lines i (lineOf 0) (n .there) in
-    simp length-append
-    (omega (arith, ap length split, length-append (take i lines) (lineAt lines i ∷ drop (suc i) lines)))

@@ -23,8 +23,8 @@ use Rattle.words.specs.Answers.{countAnswer}
 use Rattle.pages.specs.Line.{Line, lineDegree, hookLines}
 use Rattle.pages.specs.Line.Hooks.{hook-lines-few}
 use Rattle.pages.specs.declared.Slip.{Slip}
-use Rattle.pages.specs.Page.{wordOf, waiting, lineAt}
-use Rattle.pages.specs.Mode.{Mode, waitingIn}
+use Rattle.pages.specs.Page.{wordOf, lineAt}
+use Rattle.pages.specs.Mode.{Mode, waitingIn, waiting}
 use Rattle.pages.specs.Lawful.{Lawful}
 use Rattle.pages.specs.Lawful.Plain.{plain-lawful}
 use Rattle.pages.specs.Sound.Bounds.{asked-within}
@@ -110,7 +110,8 @@ module _ {m : Mode} (law : Lawful m) (limit : ℕ) (slip : Slip) (x : m .Lent) (
   abbrev previewChecks : List ℕ → List Check
   previewChecks strip = named ++ no-18 new strip ∷ []
 
-  preview-number : (strip : List ℕ) → previewIn m limit slip x line cycle strip .0 .refused ≡ firstOf (previewChecks strip)
+  preview-number : (strip : List ℕ)
+      → previewIn m limit slip x line cycle strip .0 .refused ≡ firstOf (previewChecks strip)
   unfolding previewIn
   preview-number strip =
       answer-number (λ (x : CountAnswer × List ℕ). x .0 .refused) (λ k. (countAnswer k 0, strip)) _ (λ k. refl) refl _ _
@@ -180,7 +181,8 @@ module _ {m : Mode} (law : Lawful m) (limit : ℕ) (slip : Slip) (x : m .Lent) (
             let passes : firstOf (no-18 new strip ∷ []) ≡ 0 =
             rw (le-ltb (length strip) (length new) (omega arith)) refl in
             omega (arith, first-passes named (no-18 new strip ∷ []) numbers z, first, passes)
-        | no n ↦ first-other 18 named (λ z. omega arith) other (sym (first-refuses named (no-18 new strip ∷ []) n) ∙ first)
+        | no n ↦
+            first-other 18 named (λ z. omega arith) other (sym (first-refuses named (no-18 new strip ∷ []) n) ∙ first)
       ]
 
 pub limit-suffices : (limit : ℕ) (slip : Slip) (page : List ℕ) (line cycle : ℕ) (strip : List ℕ) → limit ≤ length strip
@@ -200,4 +202,8 @@ strip-on-page limit slip page line cycle strip e =
     let none : firstOf (commitChecks limit slip page line cycle strip) ≡ 0 =
     sym (number plain-lawful limit slip page line cycle _) ∙ e in
     let lines : List Line = waiting slip page in
-    rw (none, accepted-fits plain-lawful limit slip page line cycle strip e, map-append wordOf (take line lines ++ drop (suc line) lines)) refl
+    rw (
+      none,
+      accepted-fits plain-lawful limit slip page line cycle strip e,
+      map-append wordOf (take line lines ++ drop (suc line) lines),
+    ) refl

@@ -30,7 +30,8 @@ pub line-ignored : (m : Mode) (limit : ℕ) (slip : Slip) (x : m .Lent) (kind i 
 unfolding watchIn shownIn
 line-ignored m limit slip x kind i j h = rw (lt-leb kind 2 (omega arith), same kind h)
   where
-    same : (kind : ℕ) → 3 ≤ kind → shownIn m slip (waitingIn m slip x) i kind ≡ shownIn m slip (waitingIn m slip x) j kind
+    same : (kind : ℕ) → 3 ≤ kind
+        → shownIn m slip (waitingIn m slip x) i kind ≡ shownIn m slip (waitingIn m slip x) j kind
     same zero h = absurd (omega arith)
     same (suc zero) h = absurd (omega arith)
     same (suc (suc zero)) h = absurd (omega arith)

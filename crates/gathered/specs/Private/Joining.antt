@@ -8,8 +8,10 @@
 --   stayed ..              the lines with the weights added, without the struck one and those that became 0
 --   putting ls page column the number of the lines ls, and what they leave of page and column written down there
 --   picked n ps xs         those of xs whose place is n
+--   joinedAnswer full n    the answer by its fields
 --   spares lines h         how many lines the hook line h spares, by the lines themselves
---   restOf, nextOf         the lines without the struck one, and those with the hook lines joined to them
+--   linesBefore, restOf    the lines of the page, and those without the struck one; nextOf, with the hook lines joined
+--                          to them
 --   Joinable ..            what is asked of hook lines that are joined to the lines of a page; Joins .., the same with
 --                          their places and the room
 --   joinedOnto ..          what is told and left of page and column where they are joined, if there is room
@@ -23,7 +25,7 @@ use Rattle.theory.specs.Limits.{degreeLimit, pageLimit}
 use Rattle.pages.specs.Line.{Line}
 use Rattle.pages.specs.Page.{lineAt}
 use Rattle.pages.specs.Mode.{alongside, gatheredMode}
-use Rattle.pages.specs.Gathering.{alike, lasting, gather, different}
+use Rattle.pages.specs.Gathering.{alike, lasting, gather, distinct}
 use Rattle.pages.specs.Gathering.Different.{Unlike}
 use Rattle.gathered.specs.declared.joining.Joined.{Joined}
 
@@ -61,8 +63,8 @@ picked n [] xs = []
 picked n (p ∷ ps) [] = []
 picked n (p ∷ ps) (x ∷ xs) = cond (p =? n) (x ∷ picked n ps xs) (picked n ps xs)
 
-abbrev pub joined : Bool → ℕ → Joined
-joined full lines = record { full = full; lines = lines }
+abbrev pub joinedAnswer : Bool → ℕ → Joined
+joinedAnswer full lines = record { full = full; lines = lines }
 
 -- ---- by the lines themselves
 unfoldable pub spares : List Line → Line → ℕ
@@ -70,11 +72,11 @@ spares [] h = 0
 spares (l ∷ lines) h = cond (alike l h) (cond (natAbs (l .weight +ℤ h .weight) =? 0) 2 1) (spares lines h)
 
 module _ (page : List ℕ) (column : List ℤ) (line lines : ℕ) where
-  abbrev pub linesOf : List Line
-  linesOf = gatheredMode .waits lines (page, column)
+  abbrev pub linesBefore : List Line
+  linesBefore = gatheredMode .waits lines (page, column)
 
   abbrev pub restOf : List Line
-  restOf = take line linesOf ++ drop (suc line) linesOf
+  restOf = take line linesBefore ++ drop (suc line) linesBefore
 
   abbrev pub nextOf : List ℕ → List ℤ → List Line
   nextOf words weights = gather restOf (alongside words weights)
@@ -89,11 +91,11 @@ module _ (page : List ℕ) (column : List ℤ) (line lines : ℕ) where
     pub few : length words ≤ degreeLimit
     pub small : Small 1 (take lines column)
     pub small-weights : Small 1 weights
-    pub different-lines : different linesOf ≡ true
-    pub lasting-lines : every lasting linesOf ≡ true
-    pub different-hooks : different (alongside words weights) ≡ true
+    pub different-lines : distinct linesBefore ≡ true
+    pub lasting-lines : every lasting linesBefore ≡ true
+    pub different-hooks : distinct (alongside words weights) ≡ true
     pub lasting-hooks : every lasting (alongside words weights) ≡ true
-    pub unlike-struck : Each (Unlike (lineAt linesOf line)) (alongside words weights)
+    pub unlike-struck : Each (Unlike (lineAt linesBefore line)) (alongside words weights)
 
   pub record Joins (places words : List ℕ) (weights : List ℤ) : Type 0 where
     pub able : Joinable words weights
@@ -102,8 +104,8 @@ module _ (page : List ℕ) (column : List ℤ) (line lines : ℕ) where
 
   unfoldable pub joinedOnto : List ℕ → List ℤ → Joined × (List ℕ × List ℤ)
   joinedOnto words weights =
-      cond (length page <? length next) (joined true 0, (page, column))
-      (joined false (length next), gatheredMode .put next (page, column))
+      cond (length page <? length next) (joinedAnswer true 0, (page, column))
+      (joinedAnswer false (length next), gatheredMode .put next (page, column))
     where
       next : List Line
       next = nextOf words weights

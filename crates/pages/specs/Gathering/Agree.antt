@@ -5,16 +5,22 @@
 --   opposite l             the line l with the opposite weight
 use mathlib.Core.Path.{_≡_, refl, sym, _∙_, ap, ap₂}
 use mathlib.Core.Bool.{false≢true}
+use Prim.Native.Nat.{_<_}
+use native.Mathlib.Omega.{arith}
+use borrow.Author.Tests.{not-true}
 use lib.IntN.{+ℤ-idl, +ℤ-idr, +ℤ-comm, +ℤ-invr, +ℤ-negℤ-cancel, negℤ-+ℤ}
-use Rattle.theory.specs.Basics.{true, not, List, [], _∷_, _++_, map, ℤ, pos, _+ℤ_, _-ℤ_, negℤ, natAbs, _=?_, every, sum}
+use Rattle.theory.specs.Basics.{true, not, List, [], _∷_, _++_, map, length, ℕ, zero, suc, ℤ, pos, _+ℤ_, _-ℤ_, negℤ}
+use Rattle.theory.specs.Basics.{natAbs, _=?_, every, sum}
+use Rattle.theory.specs.Basics.AtPlace.{each-at}
 use Rattle.theory.specs.Basics.Laws.{both, sum-append}
 use Rattle.theory.specs.Basics.Integers.{from-difference}
 use Rattle.pages.specs.Line.{Line, signedCharacter}
-use Rattle.pages.specs.Gathering.{weighing, lasting, gather, different, gathered, coefficient}
+use Rattle.pages.specs.Page.{lineOf, lineAt}
+use Rattle.pages.specs.Gathering.{alike, weighing, lasting, gather, distinct, gathered, coefficient}
 use Rattle.pages.specs.Gathering.Laws.{Weighs, weighs-nothing, sum-gathered, signed-weighs, coefficient-sum}
 use Rattle.pages.specs.Gathering.Laws.{weightFor, weight-weighs, coefficient-gathered}
-use Rattle.pages.specs.Gathering.Different.{alike-self, first-unlike, gathered-gather, different-none}
-use Rattle.pages.specs.Gathering.Different.{coefficient-none}
+use Rattle.pages.specs.Gathering.Different.{alike-self, alike-back, Unlike, first-unlike, rest-different}
+use Rattle.pages.specs.Gathering.Different.{gathered-gather, different-none, coefficient-none}
 
 abbrev pub SameSums : List Line → List Line → Type 0
 SameSums plain joint = (k : Line) → coefficient k plain ≡ coefficient k joint
@@ -25,17 +31,27 @@ same-sums-gathered hs k = sym (coefficient-gathered k [] hs ∙ +ℤ-idl (coeffi
 
 -- ---- lines without any coefficient
 -- among different lines each has its weight for its coefficient
-pub own-coefficient : (l : Line) (lines : List Line) → different (l ∷ lines) ≡ true
+pub own-coefficient : (l : Line) (lines : List Line) → distinct (l ∷ lines) ≡ true
     → coefficient l (l ∷ lines) ≡ l .weight
 own-coefficient l lines d =
     rw (alike-self l)
     (ap (λ z. l .weight +ℤ z) (coefficient-none l lines (first-unlike l lines d)) ∙ +ℤ-idr (l .weight))
 
+pub coefficient-at : (lines : List Line) (i : ℕ) → distinct lines ≡ true → i < length lines
+    → coefficient (lineAt lines i) lines ≡ lineAt lines i .weight
+coefficient-at [] i d h = absurd (omega arith)
+coefficient-at (l ∷ lines) zero d h = own-coefficient l lines d
+coefficient-at (l ∷ lines) (suc i) d h =
+    let there : i < length lines = omega arith in
+    let u = each-at (Unlike l) lines (lineOf 0) i (first-unlike l lines d) there in
+    rw (alike-back (lineAt lines i) l, not-true (alike l (lineAt lines i)) u)
+    (coefficient-at lines i (rest-different l lines d) there)
+
 gathered-nothing : (lines : List Line) → gathered lines ≡ true → ((k : Line) → coefficient k lines ≡ pos 0)
     → lines ≡ []
 gathered-nothing [] g e = refl
 gathered-nothing (l ∷ lines) g e =
-    let b = both (different (l ∷ lines)) (every lasting (l ∷ lines)) g in
+    let b = both (distinct (l ∷ lines)) (every lasting (l ∷ lines)) g in
     let none : l .weight ≡ pos 0 = sym (own-coefficient l lines (b .0)) ∙ e l in
     let lasts = both (lasting l) (every lasting lines) (b .1) .0 in
     absurd (false≢true (sym (ap (λ z. not (natAbs z =? 0)) none) ∙ lasts))

@@ -11,7 +11,7 @@ use Rattle.theory.specs.Basics.{sum}
 use Rattle.theory.specs.Basics.Laws.{Each, each-same, each-member, map-same}
 use Rattle.theory.specs.Basics.Keep.{every-each, each-kept, keep-all, keep-append, keep-same}
 use Rattle.pages.specs.Line.{Line}
-use Rattle.pages.specs.Gathering.{alike, weighing, brought, joined, lasting, gather, different, coefficient}
+use Rattle.pages.specs.Gathering.{alike, weighing, brought, allBrought, lasting, gather, distinct, coefficient}
 use Rattle.pages.specs.Gathering.Different.{Unlike, alike-alike, alike-back, first-unlike, rest-different}
 use Rattle.pages.specs.Gathering.Different.{different-brought, coefficient-none}
 
@@ -59,7 +59,7 @@ module _ (h : Line) where
       go true rest = refl
       go false rest = ap (λ c. not (alike l x) && c) rest
 
-  one-at-once : (lines : List Line) → different lines ≡ true
+  one-at-once : (lines : List Line) → distinct lines ≡ true
       → brought lines h ≡ map (bring (h ∷ [])) lines ++ keep (isNew lines) (h ∷ [])
   unfolding brought
   one-at-once [] d = refl
@@ -85,7 +85,7 @@ module _ (h : Line) where
       go false e rest = ap₂ (λ (z : ℤ) (ls : List Line). weighing z l ∷ ls) (sym (+ℤ-idr (l .weight))) rest
 
 -- ---- all lines
-brought-then : (lines : List Line) (h : Line) (hs : List Line) → different lines ≡ true → Each (Unlike h) hs
+brought-then : (lines : List Line) (h : Line) (hs : List Line) → distinct lines ≡ true → Each (Unlike h) hs
     → map (bring hs) (brought lines h) ≡ map (bring (h ∷ hs)) lines ++ keep (isNew lines) (h ∷ [])
 brought-then lines h hs d u =
     ap (map (bring hs)) (one-at-once h lines d)
@@ -95,9 +95,9 @@ brought-then lines h hs d u =
     ∙ map-same (λ l. Unit {0}) _ _ lines (λ l t. bring-more h hs l) (each-member _ lines (λ l m. tt)))
     (all-unchanged hs (keep (isNew lines) (h ∷ [])) (each-kept (isNew lines) _ (h ∷ []) (coefficient-none h hs u, tt)))
 
-pub at-once : (lines hs : List Line) → different hs ≡ true → different lines ≡ true
-    → joined lines hs ≡ map (bring hs) lines ++ keep (isNew lines) hs
-unfolding joined
+pub at-once : (lines hs : List Line) → distinct hs ≡ true → distinct lines ≡ true
+    → allBrought lines hs ≡ map (bring hs) lines ++ keep (isNew lines) hs
+unfolding allBrought
 at-once lines [] c d =
     sym (append-nil (map (bring []) lines) ∙ all-unchanged [] lines (each-member _ lines (λ l m. refl)))
 at-once lines (h ∷ hs) c d =
@@ -107,7 +107,7 @@ at-once lines (h ∷ hs) c d =
     ∙ append-assoc (map (bring (h ∷ hs)) lines) (keep (isNew lines) (h ∷ [])) (keep (isNew lines) hs)
     ∙ ap (λ ls. map (bring (h ∷ hs)) lines ++ ls) (sym (keep-append (isNew lines) (h ∷ []) hs))
 
-pub gathered-at-once : (lines hs : List Line) → every lasting hs ≡ true → different hs ≡ true → different lines ≡ true
+pub gathered-at-once : (lines hs : List Line) → every lasting hs ≡ true → distinct hs ≡ true → distinct lines ≡ true
     → gather lines hs ≡ keep lasting (map (bring hs) lines) ++ keep (isNew lines) hs
 gathered-at-once lines hs t c d =
     let new : List Line = keep (isNew lines) hs in

@@ -16,7 +16,7 @@ use Rattle.theory.specs.Basics.Keep.{each-kept, total-keep}
 use Rattle.theory.specs.Basics.Integers.{swap-back}
 use Rattle.theory.specs.Basics.Integers.Products.{sum-times}
 use Rattle.pages.specs.Line.{Line, signedCharacter}
-use Rattle.pages.specs.Gathering.{alike, weighing, brought, joined, lasting, gather, coefficient}
+use Rattle.pages.specs.Gathering.{alike, weighing, brought, allBrought, lasting, gather, coefficient}
 
 -- ---- equal lines
 pub alike-weighing : (l m : Line) → alike l m ≡ true → weighing (m .weight) l ≡ m
@@ -54,11 +54,11 @@ module _ (f : Line → ℤ) (weighs : Weighs f) where
           ∙ swap-back (f l) (f h) (sum f lines)
       go false e rest = ap (λ z. f l +ℤ z) rest ∙ sym (+ℤ-assoc (f l) (sum f lines) (f h))
 
-  pub sum-joined : (lines hs : List Line) → sum f (joined lines hs) ≡ sum f lines +ℤ sum f hs
-  unfolding joined
-  sum-joined lines [] = sym (+ℤ-idr (sum f lines))
-  sum-joined lines (h ∷ hs) =
-      sum-joined (brought lines h) hs ∙ ap (λ z. z +ℤ sum f hs) (sum-brought lines h)
+  pub sum-all-brought : (lines hs : List Line) → sum f (allBrought lines hs) ≡ sum f lines +ℤ sum f hs
+  unfolding allBrought
+  sum-all-brought lines [] = sym (+ℤ-idr (sum f lines))
+  sum-all-brought lines (h ∷ hs) =
+      sum-all-brought (brought lines h) hs ∙ ap (λ z. z +ℤ sum f hs) (sum-brought lines h)
       ∙ +ℤ-assoc (sum f lines) (f h) (sum f hs)
 
   sum-lasting : (lines : List Line) → sum f (keep lasting lines) ≡ sum f lines
@@ -72,7 +72,7 @@ module _ (f : Line → ℤ) (weighs : Weighs f) where
       go false e rest = ap (λ z. f l +ℤ z) rest
 
   pub sum-gathered : (lines hs : List Line) → sum f (gather lines hs) ≡ sum f lines +ℤ sum f hs
-  sum-gathered lines hs = sum-lasting (joined lines hs) ∙ sum-joined lines hs
+  sum-gathered lines hs = sum-lasting (allBrought lines hs) ∙ sum-all-brought lines hs
 
 -- what lines are worth
 pub signed-weighs : Weighs signedCharacter
@@ -129,13 +129,14 @@ module _ (g : Line → ℕ) (lightens : Lightens g) where
       go true e rest = omega (arith, lightens (l .weight) (h .weight) l, ap g (alike-weighing l h e))
       go false e rest = omega arith
 
-  total-joined : (lines hs : List Line) → total (map g (joined lines hs)) ≤ total (map g lines) + total (map g hs)
-  unfolding joined
-  total-joined lines [] = omega arith
-  total-joined lines (h ∷ hs) = omega (arith, total-joined (brought lines h) hs, total-brought lines h)
+  total-all-brought : (lines hs : List Line)
+      → total (map g (allBrought lines hs)) ≤ total (map g lines) + total (map g hs)
+  unfolding allBrought
+  total-all-brought lines [] = omega arith
+  total-all-brought lines (h ∷ hs) = omega (arith, total-all-brought (brought lines h) hs, total-brought lines h)
 
   pub total-gathered : (lines hs : List Line) → total (map g (gather lines hs)) ≤ total (map g lines) + total (map g hs)
-  total-gathered lines hs = omega (arith, total-keep lasting g (joined lines hs), total-joined lines hs)
+  total-gathered lines hs = omega (arith, total-keep lasting g (allBrought lines hs), total-all-brought lines hs)
 
 -- ---- each line
 abbrev pub Weightless : (Line → Type 0) → Type 0
@@ -154,10 +155,10 @@ module _ (P : Line → Type 0) (weightless : Weightless P) where
       go true rest = (weightless l added (e .0), e .1)
       go false rest = (e .0, rest)
 
-  pub each-joined : (lines hs : List Line) → Each P lines → Each P hs → Each P (joined lines hs)
-  unfolding joined
-  each-joined lines [] e d = e
-  each-joined lines (h ∷ hs) e d = each-joined (brought lines h) hs (each-brought lines h e (d .0)) (d .1)
+  pub each-all-brought : (lines hs : List Line) → Each P lines → Each P hs → Each P (allBrought lines hs)
+  unfolding allBrought
+  each-all-brought lines [] e d = e
+  each-all-brought lines (h ∷ hs) e d = each-all-brought (brought lines h) hs (each-brought lines h e (d .0)) (d .1)
 
   pub each-gathered : (lines hs : List Line) → Each P lines → Each P hs → Each P (gather lines hs)
-  each-gathered lines hs e d = each-kept lasting P (joined lines hs) (each-joined lines hs e d)
+  each-gathered lines hs e d = each-kept lasting P (allBrought lines hs) (each-all-brought lines hs e d)

@@ -7,20 +7,20 @@ use native.Mathlib.Omega.{arith}
 use borrow.Author.Tests.{ltb-false, le-ltb, eqb-true, eq-eqb, not-false}
 use lib.ListN.{length-append, length-map, length-replicate}
 use lib.Seq.{length-take-le, take-at, drop-at}
-use Rattle.theory.specs.Basics.{true, List, [], _∷_, _++_, map, length, take, drop, replicate, ℕ, zero, suc, _+_}
+use Rattle.theory.specs.Basics.{true, List, [], _∷_, _++_, map, length, getD, take, drop, replicate, ℕ, zero, suc, _+_}
 use Rattle.theory.specs.Basics.{_-_, _*_, _/_, _%_, _^_, ℤ, pos, natAbs, _=?_, every}
 use Rattle.theory.specs.Basics.Laws.{both, Each}
-use Rattle.theory.specs.Basics.Keep.{every-each, each-every}
+use Rattle.theory.specs.Basics.Keep.{each-others, every-each, each-every}
 use Rattle.theory.specs.Limits.{pageLimit}
 use Rattle.theory.specs.Refusals.{firstOf}
 use Rattle.theory.specs.Refusals.Laws.{none-applies}
 use Rattle.pages.specs.Line.{Line}
-use Rattle.pages.specs.Gathering.{lasting, different, gathered}
+use Rattle.pages.specs.Gathering.{lasting, distinct, gathered}
 use Rattle.pages.specs.Gathering.Laws.{each-gathered, worth-gathered}
 use Rattle.pages.specs.Gathering.Sound.{sound-gathered, values-gathered, spans-gathered}
-use Rattle.pages.specs.Gathering.Different.{different-none, one-more, gathered-none, gathered-gather, each-others}
+use Rattle.pages.specs.Gathering.Different.{different-none, one-more, gathered-none, gathered-gather}
 use Rattle.pages.specs.Gathering.Different.{different-others}
-use Rattle.pages.specs.Page.{wordOf, padded}
+use Rattle.pages.specs.Page.{wordOf, lineAt, padded}
 use Rattle.pages.specs.Page.Padded.{length-padded, zeros-padded}
 use Rattle.pages.specs.Mode.{weighted, alongside, unit, gatheredMode}
 use Rattle.pages.specs.Sound.Laws.{zero-all}
@@ -55,6 +55,14 @@ pub roomy-alongside : (page : List ℕ) (column : List ℤ) → Each Roomy (alon
 roomy-alongside [] column = tt
 roomy-alongside (x ∷ page) [] = tt
 roomy-alongside (x ∷ page) (z ∷ column) = (omega arith, roomy-alongside page column)
+
+-- the line at a place is the word there with the coefficient beside it
+pub alongside-at : (page : List ℕ) (column : List ℤ) (i : ℕ) → length page ≡ length column → i < length page
+    → lineAt (alongside page column) i ≡ weighted (getD page i 0) (getD column i (pos 0))
+alongside-at [] column i e h = absurd (omega arith)
+alongside-at (x ∷ page) [] i e h = absurd (omega arith)
+alongside-at (x ∷ page) (z ∷ column) zero e h = refl
+alongside-at (x ∷ page) (z ∷ column) (suc i) e h = alongside-at page column i (omega arith) (omega arith)
 
 -- ---- lines that are written and read
 abbrev weights : List Line → List ℤ
@@ -114,7 +122,7 @@ gathered-one l one = rw (one-more l [] tt different-none, one)
 pub gathered-others : (i : ℕ) (lines : List Line) → gathered lines ≡ true
     → gathered (take i lines ++ drop (suc i) lines) ≡ true
 gathered-others i lines stands =
-    let b = both (different lines) (every lasting lines) stands in
+    let b = both (distinct lines) (every lasting lines) stands in
     let others : List Line = take i lines ++ drop (suc i) lines in
     rw (
       different-others lines i (b .0),
@@ -122,7 +130,7 @@ gathered-others i lines stands =
     )
 
 pub gathered-more : (xs ys : List Line) → gathered xs ≡ true → gathered (gatheredMode .join xs ys) ≡ true
-gathered-more xs ys stands = gathered-gather xs ys (both (different xs) (every lasting xs) stands .0)
+gathered-more xs ys stands = gathered-gather xs ys (both (distinct xs) (every lasting xs) stands .0)
 
 pub put-same : (lines : List Line) (x y : gatheredMode .Lent) → firstOf (gatheredMode .lentChecks x) ≡ 0
     → firstOf (gatheredMode .lentChecks y) ≡ 0 → length (x .0) ≡ length (y .0)

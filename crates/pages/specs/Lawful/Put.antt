@@ -9,8 +9,8 @@ use Rattle.pages.specs.Mode.{Mode, waitingIn}
 use Rattle.pages.specs.Sound.Laws.{SoundLines, SoundIn}
 use Rattle.pages.specs.Lawful.{Lawful}
 
-module _ {m : Mode} (law : Lawful m) (slip : Slip) (lines : List Line) (x : m .Lent) (count : slip .lines ≡ length lines)
-    (written : Each (law .Written) lines) where
+module _ {m : Mode} (law : Lawful m) (slip : Slip) (lines : List Line) (x : m .Lent)
+    (count : slip .lines ≡ length lines) (written : Each (law .Written) lines) where
   pub waiting-put : waitingIn m slip (m .put lines x) ≡ lines
   waiting-put = rw count (law .waits-put lines x written)
 

@@ -1,6 +1,6 @@
 -- What a sound line, sound lines and a sound slip and page are, clause by clause: the tests of Sound as records, there
 -- and back.
---   SoundLine n l                 soundLine n l, as a record; SoundLines and Sound, the same of lines and of a page
+--   SoundLine n l                 soundLine n l, as a record; SoundLines and SoundIn, of lines and of what is lent
 --   asked slip                    the degree of the shape that the slip asks for: the n of document 01
 --   values lines, spans lines     what the lines count in all
 use mathlib.Core.Path.{_≡_, refl}
@@ -185,5 +185,7 @@ module _ (limit : ℕ) (slip : Slip) (page : List ℕ) where
   -- what it tells that 6 and 7 do not refuse
   pub page-passed : firstOf (pageChecks limit slip page) ≡ 0 → (length page ≤ pageLimit) × Sound limit slip page
   page-passed none =
-      let (short, (passes, _)) = none-applies (pageChecks limit slip page) refl none in
-      (ltb-false pageLimit (length page) short, is-sound plainMode limit slip page (not-false (sound limit slip page) passes))
+      let (short, (passes, _)) = none-applies (pageChecks limit slip page) refl none in (
+        ltb-false pageLimit (length page) short,
+        is-sound plainMode limit slip page (not-false (sound limit slip page) passes),
+      )

@@ -58,7 +58,8 @@ add-result : tie.Need-add-result
 add-result c =
     let s = c .before .before .before .before .before .before in
     record {
-      fits = omega (arith, count c, plain-session-short (s .pre .0), length-map (s .args .lines .now) lineOf, s .pre .1);
+      fits =
+          omega (arith, count c, plain-session-short (s .pre .0), length-map (s .args .lines .now) lineOf, s .pre .1);
     }
 
 returns-2 : tie.Need-returns-2

@@ -157,8 +157,8 @@ put-requires c κs =
     let e = r .before .before in
     (read-head (front e) .fits, (all-formed e, rw (follows (front e)) at (r .if4 .left)))
 
-clear-requires : tie.Need-clear-requires
-clear-requires c κs = search needs
+words-requires : tie.Need-words-requires
+words-requires c κs = search needs
 
 same-length : tie.Need-same-length
 same-length c = search needs
@@ -177,8 +177,7 @@ returns-6 c =
     (passes (a .page .now) (front e .before .before .before .if1 .left)) (good e) room (enough e)
     (not-false _ (t .if5 .left))
     (lines-put (a .text .now) (a .page .now) (p .put .ensures) (read-head (front e) .rest) (its-count (front e))
-    (k .clear
-    .ensures) room))
+    (k .words .ensures) room))
 
 pub load-spec : {M : Type 1} → statement M
 load-spec =
@@ -198,6 +197,6 @@ load-spec =
     unloaded-requires-5
     returns-5
     put-requires
-    clear-requires
+    words-requires
     same-length
     returns-6)

@@ -8,8 +8,7 @@ use Rattle.theory.specs.Basics.{length}
 use Rattle.theory.specs.Limits.{degreeLimit}
 use Rattle.theory.specs.Refusals.{firstOf}
 use Rattle.text.specs.Wrote.{most}
-use Rattle.pages.specs.Page.{waiting}
-use Rattle.pages.specs.Mode.{plainMode}
+use Rattle.pages.specs.Mode.{plainMode, waiting}
 use Rattle.pages.specs.Sound.{pageChecks}
 use Rattle.pages.specs.Sound.Laws.{Sound}
 use Rattle.sessiontext.specs.SessionText.Storable.{Storable, sound-storable}

@@ -92,7 +92,8 @@ module _ {f : Form} (fa : Faithful f) {slip : Slip} {x : f .mode .Lent} (s : Sou
         s .stands,
         sound-are degreeLimit slip lines (s .lines),
       )
-      (same-answer (firstOf (front ++ (false, 16) ∷ tenth ∷ (false, 7) ∷ [])) (firstOf (front ++ tenth ∷ [])) same-first)
+      (same-answer (firstOf (front ++ (false, 16) ∷ tenth ∷ (false, 7) ∷ [])) (firstOf (front ++ tenth ∷ []))
+      same-first)
     where
       front : List Check
       front = f .mode .lentChecks y

@@ -5,7 +5,7 @@
 --                          ReadInteger t r, whether they hold what is read off t
 --   ReadParts w t r column the parts that stand in t, at the front of a column, and their word by w, if they are a
 --                          partition within the limit; noParts, if not; ReadShape and ReadClass, so of those lines
---   ReadLine t r rows cycles   what stands in t of a waiting line; ReadWaiting t r, and whether t is of its form
+--   ReadLine t r           what stands in t of a waiting line; ReadWaiting t r, and whether t is of its form
 --   ReadNext text at r     whether the text's line at `at` is of its form, and then its word, and where it ends
 --   ReadLines ts b r       the first of the lines ts at fault, and then whether the budget b suffices for them
 --   readChecks ..          the checks of the first six lines by what was read off them; ReadHead, what was read in all
@@ -26,7 +26,6 @@ use Rattle.sessiontext.specs.declared.partitions.PartsRead.{PartsRead}
 use Rattle.sessiontext.specs.declared.partitions.ShapeRead.{ShapeRead}
 use Rattle.sessiontext.specs.declared.partitions.ClassRead.{ClassRead}
 use Rattle.sessiontext.specs.declared.straight.LineAt.{LineAt}
-use Rattle.sessiontext.specs.declared.waiting.LineParts.{LineParts}
 use Rattle.sessiontext.specs.declared.waiting.LineRead.{LineRead}
 use Rattle.sessiontext.specs.declared.waiting.LinesRead.{LinesRead}
 use Rattle.sessiontext.specs.declared.reading.HeadRead.{HeadRead}
@@ -34,7 +33,7 @@ use Rattle.pages.specs.declared.Budget.{Budget}
 use Rattle.pages.specs.Page.{wordOf}
 use Rattle.pages.specs.Budget.{spentAll}
 use Rattle.sessiontext.specs.SessionText.{held}
-use Rattle.sessiontext.specs.Reading.{inLimit, isNumber, isInteger, isList, minusIn, shapeIn, classIn}
+use Rattle.sessiontext.specs.Reading.{inLimit, isNumber, isInteger, isList, shapeIn, classIn}
 use Rattle.sessiontext.specs.Reading.{isWaiting, lineIn, lineFaults}
 use Rattle.sessiontext.specs.Reading.{following, headFaults, slipIn}
 
@@ -82,13 +81,8 @@ pub record ReadClass (t : Text) (r : ClassRead) : Type 0 where
   pub formed : r .formed ≡ isList degreeLimit (ascii "class=") t
   pub word : r .formed ≡ true → r .word ≡ classWord (listIn t)
 
-pub record ReadLine (t : Text) (r : LineParts) (rows cycles : List ℕ) : Type 0 where
+pub record ReadLine (t : Text) (r : LineRead) : Type 0 where
   pub formed : r .formed ≡ (inLimit degreeLimit (shapeIn t) && inLimit degreeLimit (classIn t))
-  pub minus : r .formed ≡ true → r .minus ≡ minusIn t
-  pub shape-inside : r .formed ≡ true → r .rows ≤ length rows
-  pub shape : r .formed ≡ true → take (r .rows) rows ≡ shapeIn t
-  pub class-inside : r .formed ≡ true → r .cycles ≤ length cycles
-  pub class : r .formed ≡ true → take (r .cycles) cycles ≡ classIn t
   pub word : r .formed ≡ true → r .word ≡ wordOf (lineIn t)
 
 pub record ReadWaiting (t : Text) (r : LineRead) : Type 0 where

@@ -1,12 +1,16 @@
 -- What the private readers of a gathered session's text are asked, and what they answer.
+--   ToldWeighted t r          what stands in t of a waiting line with a coefficient, whatever its form: whether 64 bits
+--                             hold that and shape and class are in the limit, and then its word and that
 --   ReadWeighted t r          whether t is the text of a waiting line with a coefficient, and then its word and that
+--   readAs ts                 the lines that the texts ts are read as; wordsOf lines, weightsOf lines, their words with
+--                             clear sign digits and their weights
 --   PutDown ts page column .. what the lines ts are read as stands at the front of a page and of a column
---   ReadFronted text r        what was read off the first seven lines
+--   frontedFaults text        the checks of the first seven lines; ReadFronted text r, what was read off them
 --   Taken text start slip     the lines of the text from a place on are of their form, and as many as the slip says
 use mathlib.Core.Path.{_≡_}
 use Prim.Native.Nat.{_≤_}
 use lib.Seq.{sets}
-use Rattle.theory.specs.Basics.{true, List, map, _++_, ℕ, ℤ, length, drop}
+use Rattle.theory.specs.Basics.{true, _&&_, List, map, _++_, ℕ, ℤ, length, drop}
 use Rattle.theory.specs.Basics.Laws.{Each}
 use Rattle.theory.specs.Limits.{degreeLimit, pageLimit}
 use Rattle.theory.specs.Refusals.{Check, firstOf}
@@ -18,10 +22,16 @@ use Rattle.pages.specs.Page.{wordOf}
 use Rattle.pages.specs.Mode.{unit}
 use Rattle.sessiontext.specs.declared.coefficients.WeightedRead.{WeightedRead}
 use Rattle.sessiontext.specs.declared.reading.HeadRead.{HeadRead}
-use Rattle.sessiontext.specs.SessionText.{gatheredForm}
-use Rattle.sessiontext.specs.Reading.{frontFaults, isWaitingBy, lineBy, weightBy, followingBy, headFaultsBy}
-use Rattle.sessiontext.specs.Reading.{slipBy}
+use Rattle.sessiontext.specs.SessionText.{held, gatheredForm}
+use Rattle.sessiontext.specs.Reading.{inLimit, shapeIn, classIn, frontFaults, isWaitingBy, lineBy, weightBy}
+use Rattle.sessiontext.specs.Reading.{followingBy, headFaultsBy, slipBy}
 use Rattle.sessiontext.specs.Reading.Forms.{WaitingBy}
+
+pub record ToldWeighted (t : Text) (r : WeightedRead) : Type 0 where
+  pub formed : r .formed
+      ≡ (held (weightBy gatheredForm t) && (inLimit degreeLimit (shapeIn t) && inLimit degreeLimit (classIn t)))
+  pub word : r .formed ≡ true → r .word ≡ wordOf (unit (lineBy gatheredForm t))
+  pub coefficient : r .formed ≡ true → r .coefficient ≡ weightBy gatheredForm t
 
 pub record ReadWeighted (t : Text) (r : WeightedRead) : Type 0 where
   pub formed : r .formed ≡ isWaitingBy gatheredForm degreeLimit t

@@ -3,7 +3,7 @@ use mathlib.Core.Path.{_≡_, refl, sym, _∙_, ap, ap₂}
 use Prim.Native.Nat.{_<_}
 use native.Mathlib.Omega.{arith}
 use lib.ListN.{length-map}
-use Rattle.theory.specs.Basics.{List, [], _∷_, _++_, map, length, getD, drop, ℕ, suc, joined}
+use Rattle.theory.specs.Basics.{true, List, [], _∷_, _++_, map, length, getD, drop, ℕ, suc, joined}
 use Rattle.theory.specs.Basics.Laws.{Each}
 use Rattle.theory.specs.Partition.{Parts}
 use Rattle.theory.specs.Digits.{width}
@@ -16,10 +16,11 @@ use Rattle.theory.specs.Refusals.Laws.{Within, WithinClass}
 use Rattle.text.specs.Text.{Text}
 use Rattle.text.specs.Reading.{before, linesOf}
 use Rattle.text.specs.Reading.Lines.{lines-whole}
-use Rattle.sessiontext.specs.SessionText.{Form, lineTextBy, sessionLinesBy, sessionTextBy}
+use Rattle.sessiontext.specs.SessionText.{Form, weightedText, lineTextBy, sessionLinesBy, sessionTextBy}
 use Rattle.sessiontext.specs.SessionText.Faithful.{Faithful}
 use Rattle.sessiontext.specs.SessionText.Storable.{StorableLineBy}
-use Rattle.sessiontext.specs.Reading.{lineBy, bodyBy, atBy, followingBy, slipBy, linesBy}
+use Rattle.sessiontext.specs.Reading.{shapeIn, classIn, weightBy, lineBy, bodyBy, atBy, followingBy, slipBy}
+use Rattle.sessiontext.specs.Reading.{linesBy}
 use Rattle.sessiontext.specs.Reading.Forms.{Fronted, InLimit, WaitingBy, FormedBy}
 
 -- a list that has an element at place 5
@@ -63,25 +64,37 @@ module _ (limit : ℕ) (room : limit < width) where
     class-within = record { good = word-good held-class; small = rw class-kept (i .small) }
 
   module _ {f : Form} (fa : Faithful f) where
+    -- ---- a waiting line, whether or not its text is of its form
+    module _ (t : Text) (fits : f .fits (weightBy f t) ≡ true) (shape : InLimit limit (shapeIn t))
+        (class : InLimit limit (classIn t)) where
+      pub told-text : lineTextBy f (lineBy f t) ≡ weightedText (f .weightText (weightBy f t)) (shapeIn t) (classIn t)
+      unfolding lineBy
+      told-text = rw (shape-kept shape, class-kept class) refl
+
+      pub told-storable : StorableLineBy fa limit (lineBy f t)
+      unfolding lineBy
+      told-storable = record {
+        kept = fa .fits-kept (before 59 t) fits;
+        shape = shape-within shape;
+        class = class-within class;
+      }
+
+      pub told-written : fa .law .Written (lineBy f t)
+      unfolding lineBy
+      told-written =
+          fa .kept-written _ (fa .fits-kept (before 59 t) fits) (omega (arith, shape-within shape .good .below))
+          (omega (arith, class-within class .good .below))
+
     -- ---- a waiting line
     module _ {t : Text} (w : WaitingBy f limit t) where
       pub line-exact : lineTextBy f (lineBy f t) ≡ t
-      unfolding lineBy
-      line-exact = rw (shape-kept (w .shape), class-kept (w .class)) (sym (w .whole))
+      line-exact = told-text t (w .fits) (w .shape) (w .class) ∙ sym (w .whole)
 
       pub line-storable : StorableLineBy fa limit (lineBy f t)
-      unfolding lineBy
-      line-storable = record {
-        kept = fa .fits-kept (before 59 t) (w .fits);
-        shape = shape-within (w .shape);
-        class = class-within (w .class);
-      }
+      line-storable = told-storable t (w .fits) (w .shape) (w .class)
 
       pub line-written : fa .law .Written (lineBy f t)
-      unfolding lineBy
-      line-written =
-          fa .kept-written _ (fa .fits-kept (before 59 t) (w .fits)) (omega (arith, shape-within (w .shape) .good .below))
-          (omega (arith, class-within (w .class) .good .below))
+      line-written = told-written t (w .fits) (w .shape) (w .class)
 
     lines-exact : (ts : List Text) → Each (WaitingBy f limit) ts → map (lineTextBy f) (map (lineBy f) ts) ≡ ts
     lines-exact [] e = refl
@@ -97,7 +110,8 @@ module _ (limit : ℕ) (room : limit < width) where
           ++ (atBy f text 0 ∷ atBy f text 1 ∷ atBy f text 2 ∷ atBy f text 3 ∷ atBy f text 4 ∷ atBy f text 5
           ∷ followingBy f text)
       all-lines =
-          behind-front (f .front) (linesOf text) (g .front) (λ none. some-line (ap (λ (ls : List Text). getD ls 5 []) none))
+          behind-front (f .front) (linesOf text) (g .front)
+          (λ none. some-line (ap (λ (ls : List Text). getD ls 5 []) none))
           ∙ ap (λ (ls : List Text). f .front ++ ls) (six (bodyBy f text) some-line)
 
       session-lines : sessionLinesBy f (slipBy f text) (linesBy f text) ≡ linesOf text

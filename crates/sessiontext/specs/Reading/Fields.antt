@@ -137,7 +137,8 @@ module _ (limit : ℕ) (room : limit < width) where
           let behind-it : behind 59 text ≡ tail = ap (behind 59) split ∙ behind-first 59 ahead tail front-plain in
           record {
             its-weight =
-                ap (f .weightIn) (ap (before 59) split ∙ before-first 59 ahead tail front-plain) ∙ fa .weight-back z kept;
+                ap (f .weightIn) (ap (before 59) split ∙ before-first 59 ahead tail front-plain)
+                ∙ fa .weight-back z kept;
             its-shape = ap (λ (u : Text). listIn (before 59 u)) behind-it ∙ shape-read;
             its-class = ap (λ (u : Text). listIn (behind 59 u)) behind-it ∙ class-read;
           }
@@ -162,11 +163,13 @@ module _ (limit : ℕ) (room : limit < width) where
   module _ {f : Form} (fa : Faithful f) {l : Line} (s : StorableLineBy fa limit l) where
     pub line-formed : WaitingBy f limit (lineTextBy f l)
     line-formed =
-        waiting-formed (shapeOf (l .shape)) (classOf (l .class)) (shape-in (s .shape)) (class-in (s .class)) fa (l .weight)
+        waiting-formed (shapeOf (l .shape)) (classOf (l .class)) (shape-in (s .shape)) (class-in (s .class)) fa
+        (l .weight)
         (s .kept)
 
     pub line-same : lineBy f (lineTextBy f l) ≡ l
     line-same =
-        waiting-same (shapeOf (l .shape)) (classOf (l .class)) (shape-in (s .shape)) (class-in (s .class)) fa (l .weight)
+        waiting-same (shapeOf (l .shape)) (classOf (l .class)) (shape-in (s .shape)) (class-in (s .class)) fa
+        (l .weight)
         (s .kept)
         ∙ rw (shape-back (l .shape) (shape-good (s .shape .good)), class-same (s .class)) refl

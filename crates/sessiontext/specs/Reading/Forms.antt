@@ -3,7 +3,7 @@
 --   Number name bound t     isNumber name bound t, as a record; Integer, InLimit, Listed and WaitingBy, so too
 --   FormedBy f limit text   faultBy f limit text ≡ 0, as a record
 --   Waiting, Formed         these by the plain form
-use mathlib.Core.Path.{_≡_, refl, _∙_, ap}
+use mathlib.Core.Path.{_≡_, refl, _∙_}
 use Prim.Native.Nat.{_≤_, _<_}
 use native.Mathlib.Nat.{add-suc}
 use native.Mathlib.Omega.{arith}
@@ -16,11 +16,10 @@ use Rattle.theory.specs.Refusals.{Check, firstOf}
 use Rattle.theory.specs.Refusals.Laws.{Numbered, none-applies, both-pass, first-passes}
 use Rattle.text.specs.Text.{Text, ascii, decimal, integer, listText, textLine, field}
 use Rattle.text.specs.Reading.{numberIn, integerIn, listIn, linesOf}
-use Rattle.sessiontext.specs.SessionText.{held, Form, plainForm, weightedText, waitingText}
-use Rattle.sessiontext.specs.SessionText.Faithful.Plain.{sign-read}
-use Rattle.sessiontext.specs.Reading.{inLimit, isNumber, isInteger, isList, shapeIn, classIn, frontFaults, weightBy}
-use Rattle.sessiontext.specs.Reading.{isWaitingBy, atBy, followingBy, lineFaultsBy, headFaultsBy, faultsBy, faultBy}
-use Rattle.sessiontext.specs.Reading.{minusIn}
+use Rattle.sessiontext.specs.SessionText.{held, Form, plainForm, weightedText}
+use Rattle.sessiontext.specs.Reading.{inLimit, isNumber, isInteger, isList, shapeIn, classIn, frontFaults}
+use Rattle.sessiontext.specs.Reading.{weightBy, isWaitingBy, atBy, followingBy, lineFaultsBy, headFaultsBy}
+use Rattle.sessiontext.specs.Reading.{faultsBy, faultBy}
 
 -- ---- the lines in front are these
 abbrev pub Fronted : List Text → List Text → Type 0
@@ -111,11 +110,6 @@ module _ (f : Form) (limit : ℕ) (t : Text) where
   pub waiting-is : WaitingBy f limit t → isWaitingBy f limit t ≡ true
   unfolding isWaitingBy
   waiting-is w = rw (w .fits, limit-in (w .shape), limit-in (w .class)) (self (w .whole))
-
--- a line of the plain form has a sign
-pub signed-whole : {limit : ℕ} {t : Text} → Waiting limit t → t ≡ waitingText (minusIn t) (shapeIn t) (classIn t)
-signed-whole {t = t} w =
-    w .whole ∙ ap (λ b. waitingText b (shapeIn t) (classIn t)) (sign-read (minusIn t))
 
 -- ---- a text
 pub record FormedBy (f : Form) (limit : ℕ) (text : Text) : Type 0 where
@@ -212,7 +206,8 @@ module _ (f : Form) (limit : ℕ) where
     pub no-fault : FormedBy f limit text → faultBy f limit text ≡ 0
     unfolding faultBy faultsBy
     no-fault g =
-        first-passes (frontFaults 1 (f .front) (linesOf text)) (heads ++ rest) (numbered-front 0 (f .front) (linesOf text))
+        first-passes (frontFaults 1 (f .front) (linesOf text)) (heads ++ rest)
+        (numbered-front 0 (f .front) (linesOf text))
         (no-front-fault 1 (f .front) (linesOf text) (g .front))
         ∙ rw (
           number-is (g .degree-line),

@@ -1,7 +1,7 @@
 -- A text that was saved in a run puts the run back at that save, if it is loaded later on in it: it is the text of that
 -- slip and what was lent, so that this is what the load gives, and the steps that it gives are those that counted then.
---   PutBack ..   a load of the text, made at `now` and answered a with y left, is accepted, belongs to the run, and puts it
---                back at `then`: slip, what is lent and count are those of then, and what was saved stays saved
+--   PutBack ..   a load of the text, made at `now` and answered a with y left, is accepted, belongs to the run, and puts
+--                it back at `then`: slip, what is lent and count are those of then, and what was saved stays saved
 use mathlib.Core.Path.{_≡_, sym, _∙_, ap}
 use mathlib.Core.List.{cons-ne-nil}
 use lib.IntN.{+ℤ-idl}
@@ -35,7 +35,8 @@ steps-counted {k = k} unstepped l = l .counted ∙ ap (λ z. z +ℤ pos k) unste
 
 -- a run from slip s and x that saves at `then` and goes on to `now`
 module _ {f : Form} (fa : Faithful f) (s : Slip) (x : f .mode .Lent) (lent : firstOf (f .mode .lentChecks x) ≡ 0)
-    (unstepped : s .steps ≡ pos 0) (laid : x ≡ f .mode .put (waitingIn (f .mode) s x) x) (then : Standing (f .mode .Lent))
+    (unstepped : s .steps ≡ pos 0) (laid : x ≡ f .mode .put (waitingIn (f .mode) s x) x)
+    (then : Standing (f .mode .Lent))
     (w : Stands fa s x then) (out left : Text) (a : CountAnswer)
     (saving : Outcome (saveBy f degreeLimit (then .slip) (then .lent) out) a left) (none : a .refused ≡ 0)
     (later : List (Call (f .mode .Lent))) (now : Standing (f .mode .Lent))

@@ -66,7 +66,7 @@ module _ {f : Form} (fa : Faithful f) (shape class : ℕ) (x : f .mode .Lent) (c
     pub put-back : PutsBack
 
   -- what an accepted opening promised, of the answer and the page that came back
-  session-opened : (s : Session f degreeLimit shape class x calls end)
+  pub session-opened : (s : Session f degreeLimit shape class x calls end)
       → Opened (fa .law) degreeLimit shape class x (s .answer .slip) (s .lent)
   session-opened s =
       let a = s .promised .answers in
@@ -77,8 +77,8 @@ module _ {f : Form} (fa : Faithful f) (shape class : ℕ) (x : f .mode .Lent) (c
     abbrev first : Standing (f .mode .Lent)
     first = begun (s .answer .slip) (s .lent)
 
-    stands : (so-far : List (Call (f .mode .Lent))) (now : Standing (f .mode .Lent)) → Run f degreeLimit first so-far now
-        → Stands fa (s .answer .slip) (s .lent) now
+    stands : (so-far : List (Call (f .mode .Lent))) (now : Standing (f .mode .Lent))
+        → Run f degreeLimit first so-far now → Stands fa (s .answer .slip) (s .lent) now
     stands so-far now r =
         run-stands fa (s .answer .slip) (s .lent) (session-opened s .lent) first so-far now r
         (record { leads = stays (session-opened s .soundness); stored = tt })
@@ -95,8 +95,8 @@ module _ {f : Form} (fa : Faithful f) (shape class : ℕ) (x : f .mode .Lent) (c
         o .laid
         ∙ fa .law .put-alike (waitingIn (f .mode) (s .answer .slip) (s .lent)) x (s .lent) (o .was-lent) (o .lent)
         (sym (o .same-length)) in
-        put-back fa (s .answer .slip) (s .lent) (o .lent) (o .unstepped) laid then (stands before then so-far) out left a (r .0) none
-        later end (r .2)
+        put-back fa (s .answer .slip) (s .lent) (o .lent) (o .unstepped) laid then (stands before then so-far) out left a
+        (r .0) none later end (r .2)
 
   pub demand-3 : Session f degreeLimit shape class x calls end → Demand3
   unfolding worth

@@ -1,6 +1,6 @@
 -- What a commit keeps, accepted or refused, on any sound slip and page, whoever wrote it, in any mode.
---   Leads m limit s x k t y   with k steps that count, slip s and x, which is lent, become the sound slip t and y, worth the
---                             same, of the same shape and class, on a page of the same length
+--   Leads m limit s x k t y   with k steps that count, slip s and x, which is lent, become the sound slip t and y,
+--                             worth the same, of the same shape and class, on a page of the same length
 use mathlib.Core.Path.{_≡_, refl, sym, _∙_, ap}
 use lib.Dec.{eqb·suc-zero}
 use lib.IntN.{+ℤ-assoc, +ℤ-idr}

@@ -21,7 +21,8 @@ module _ (f : Form) (limit : ℕ) where
     pub so-far : Run f limit now before halfway
     pub goes-on : Run f limit halfway later end
 
-  pub run-splits : (now : Standing L) (before later : List (Call L)) (end : Standing L) → Run f limit now (before ++ later) end
+  pub run-splits : (now : Standing L) (before later : List (Call L)) (end : Standing L)
+      → Run f limit now (before ++ later) end
       → Between now before later end
   unfolding Run
   run-splits now [] later end r = record { halfway = now; so-far = refl; goes-on = r }
@@ -44,7 +45,8 @@ module _ (f : Form) (limit : ℕ) where
       rw (same .0, same .1) refl
 
   -- ---- watches struck
-  struck : (now : Standing L) (call : Call L) (calls : List (Call L)) (end : Standing L) → Run f limit now (call ∷ calls) end
+  struck : (now : Standing L) (call : Call L) (calls : List (Call L)) (end : Standing L)
+      → Run f limit now (call ∷ calls) end
       → Run f limit now (cond (not (isWatch call)) (call ∷ calls) calls) end
   unfolding Run
   struck now (opened shape class a y) calls end r = r

@@ -45,9 +45,11 @@ module _ (f : Form) (limit : ℕ) where
   answered s x (to-open shape class) =
       opened shape class (openingIn (f .mode) limit shape class x .0) (openingIn (f .mode) limit shape class x .1)
   answered s x (to-preview line cycle strip) =
-      previewed line cycle strip (previewIn (f .mode) limit s x line cycle strip .0) (previewIn (f .mode) limit s x line cycle strip .1)
+      previewed line cycle strip (previewIn (f .mode) limit s x line cycle strip .0)
+      (previewIn (f .mode) limit s x line cycle strip .1)
   answered s x (to-commit line cycle strip) =
-      committed line cycle strip (commitIn (f .mode) limit s x line cycle strip .0) (commitIn (f .mode) limit s x line cycle strip .1)
+      committed line cycle strip (commitIn (f .mode) limit s x line cycle strip .0)
+      (commitIn (f .mode) limit s x line cycle strip .1)
   answered s x (to-watch kind line) = watched kind line (said (watchIn (f .mode) limit s x kind line))
   answered s x (to-save out) = saved out (saveBy f limit s x out .0) (saveBy f limit s x out .1)
   answered s x (to-load text) = loaded text (loadBy f limit text x .0) (loadBy f limit text x .1)
@@ -91,8 +93,8 @@ one-session {f} {limit} {calls = calls} {others = others} {end = end} {other = o
     (same, one-end f limit first others (rw same at (a .goes-on)) r)
 
 -- if one asks what the other does but for watches and previews, every other call is answered the same, and they end alike
-pub one-session-unwatched : {f : Form} {limit shape class : ℕ} {x : f .mode .Lent} {calls others : List (Call (f .mode .Lent))}
-    {end other : Standing (f .mode .Lent)}
+pub one-session-unwatched : {f : Form} {limit shape class : ℕ} {x : f .mode .Lent}
+    {calls others : List (Call (f .mode .Lent))} {end other : Standing (f .mode .Lent)}
     → Session f limit shape class x calls end → Session f limit shape class x others other
     → requests (unwatched calls) ≡ requests others → (unwatched calls ≡ others) × (end ≡ other)
 one-session-unwatched {f} {limit} a b asked = one-session (session-unwatched f limit a) b asked

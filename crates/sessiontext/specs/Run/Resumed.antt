@@ -45,7 +45,8 @@ module _ {f : Form} (fa : Faithful f) (text : Text) (other : f .mode .Lent) (b :
       → Run f degreeLimit (begun (b .slip) y) calls end
       → Leads (f .mode) degreeLimit (b .slip) y (end .counted) (end .slip) (end .lent)
   foreign-run calls end run =
-      run-stands fa (b .slip) y (took .passes) (begun (b .slip) y) calls end run (record { leads = stays (took .fair); stored = tt })
+      run-stands fa (b .slip) y (took .passes) (begun (b .slip) y) calls end run
+      (record { leads = stays (took .fair); stored = tt })
       .leads
 
 -- ---- a text that was saved in a session
@@ -87,7 +88,8 @@ module _ {f : Form} (fa : Faithful f) (shape class : ℕ) (x : f .mode .Lent) (b
       let lines : waitingIn m (b .slip) y ≡ waitingIn m (then .slip) (then .lent) =
       sym (lines-back fa degreeLimit small mine) ∙ ap (linesBy f) same ∙ lines-back fa degreeLimit small first in
       let leads = foreign-run fa text other b y loading accepted calls end run in
-      let as-saved : worth (b .slip) (waitingIn m (b .slip) y) ≡ worth (then .slip) (waitingIn m (then .slip) (then .lent)) =
+      let as-saved : worth (b .slip) (waitingIn m (b .slip) y)
+      ≡ worth (then .slip) (waitingIn m (then .slip) (then .lent)) =
       ap (λ (ls : List Line). worth (b .slip) ls) lines
       ∙ ap (λ (u : Slip). worth u (waitingIn m (then .slip) (then .lent))) slip in
       record {

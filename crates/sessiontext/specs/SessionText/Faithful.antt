@@ -1,7 +1,7 @@
 -- What the theorems about texts ask of a form: a weight that it keeps comes back from its text. Both forms have it
 -- (Faithful/Plain, Faithful/Gathered).
---   Faithful f    the laws of the form f; Kept z, that the weight z comes back; weightRoom, how many bytes are enough for
---                 the text of such a weight
+--   Faithful f    the laws of the form f; Kept z, that the weight z comes back; weightRoom, how many bytes are enough
+--                 for the text of such a weight
 use mathlib.Core.Path.{_≡_}
 use Prim.Native.Nat.{_≤_, _<_}
 use Rattle.theory.specs.Basics.{true, _++_, length, ℕ, _^_, ℤ, natAbs, joined}

@@ -94,18 +94,13 @@ module _ (weight : Text) (shape class : Parts) where
         length-append weight (ascii ";"),
       )
 
-  pub weighted-short : (room : ℕ) → length weight ≤ room → InLimit degreeLimit shape → InLimit degreeLimit class
+  weighted-short : (room : ℕ) → length weight ≤ room → InLimit degreeLimit shape → InLimit degreeLimit class
       → length (weightedText weight shape class) ≤ room + 71
   weighted-short room h i j = omega (arith, weighted-length, list-short i, list-short j)
 
 pub waiting-length : (minus : Bool) (shape class : Parts)
     → length (waitingText minus shape class) ≡ 9 + length (listText shape) + length (listText class)
 waiting-length minus shape class = omega (arith, weighted-length (signText minus) shape class, sign-length minus)
-
-pub waiting-short : (minus : Bool) {shape class : Parts} → InLimit degreeLimit shape → InLimit degreeLimit class
-    → length (waitingText minus shape class) ≤ lineRoom
-waiting-short minus {shape} {class} i j =
-    weighted-short (signText minus) shape class 1 (omega (arith, sign-length minus)) i j
 
 -- ---- a session
 small : degreeLimit < width
@@ -160,7 +155,8 @@ module _ {f : Form} (fa : Faithful f) where
         let front : Text = frontText f in
         let head : Text = askedText slip ++ reachedText slip (length lines) in
         let each =
-        each-same (StorableLineBy fa degreeLimit) (λ l. length (lineTextBy f l) ≤ lineRoomBy) lines line-short (s .each) in
+        each-same (StorableLineBy fa degreeLimit) (λ l. length (lineTextBy f l) ≤ lineRoomBy) lines line-short
+        (s .each) in
         rw (session-parts f slip lines)
         (omega (
           arith,

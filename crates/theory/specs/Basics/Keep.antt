@@ -5,7 +5,7 @@ use mathlib.Core.Bool.{false≢true}
 use Prim.Native.Nat.{_≤_, _<_}
 use native.Mathlib.Omega.{arith}
 use lib.IntN.{+ℤ-assoc}
-use Rattle.theory.specs.Basics.{Bool, true, false, not, cond, List, [], _∷_, _++_, map, length, getD}
+use Rattle.theory.specs.Basics.{Bool, true, false, not, cond, List, [], _∷_, _++_, map, length, getD, take, drop}
 use Rattle.theory.specs.Basics.{ℕ, zero, suc, _+_, ℤ, _+ℤ_, keep, every, total, sum, upFrom}
 use Rattle.theory.specs.Basics.Laws.{both, Each, each-same, each-member}
 use Rattle.theory.specs.Basics.Integers.{swap-front}
@@ -24,6 +24,13 @@ module _ {A : Type 0} where
   each-parts P (x ∷ xs) ys e =
       let r = each-parts P xs ys (e .1) in
       ((e .0, r .0), r .1)
+
+  -- what is true of each is true of each but one
+  pub each-others : (P : A → Type 0) (xs : List A) (i : ℕ) → Each P xs → Each P (take i xs ++ drop (suc i) xs)
+  each-others P [] zero e = tt
+  each-others P [] (suc i) e = tt
+  each-others P (x ∷ xs) zero e = e .1
+  each-others P (x ∷ xs) (suc i) e = (e .0, each-others P xs i (e .1))
 
   module _ (test : A → Bool) where
     pub every-each : (xs : List A) → every test xs ≡ true → Each (λ x. test x ≡ true) xs

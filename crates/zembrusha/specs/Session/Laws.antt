@@ -1,7 +1,7 @@
 -- A session through the exports is a session of the calculator, and so demand 3 is true of it, by any faithful form.
 --   Calculated ..   the session of the calculator's calls that are the same, and demand 3 of it
 use mathlib.Core.Path.{_≡_, refl, ap}
-use Rattle.theory.specs.Basics.{List, [], _∷_, ℕ, zero, suc}
+use Rattle.theory.specs.Basics.{List, [], _∷_, ℕ, zero, suc, ℤ}
 use Rattle.theory.specs.Refusals.{firstOf, refusedOr}
 use Rattle.theory.specs.Limits.{degreeLimit}
 use Rattle.words.specs.Answers.{Outcome}
@@ -10,16 +10,19 @@ use Rattle.pages.specs.declared.Slip as calculator-slip
 use Rattle.pages.specs.Mode.{Mode, waitingIn}
 use Rattle.characters.specs.Watch.{Value, whole, quotient, none, reads, shownIn, watchChecksIn, watchIn}
 use Rattle.characters.specs.Watch.Answers.{said}
-use Rattle.sessiontext.specs.SessionText.{Form}
+use Rattle.sessiontext.specs.SessionText.{Form, plainForm, gatheredForm}
 use Rattle.sessiontext.specs.SessionText.Faithful.{Faithful}
+use Rattle.sessiontext.specs.SessionText.Faithful.Plain.{plain-faithful}
+use Rattle.sessiontext.specs.SessionText.Faithful.Gathered.{gathered-faithful}
 use Rattle.sessiontext.specs.Run as calculator
 use Rattle.sessiontext.specs.Run.{Standing, after}
 use Rattle.sessiontext.specs.Run.Demand3.{Demand3, demand-3}
+use Rattle.sessiontext.specs.Run.Modes.{GatheredDemand3, gathered-demand-3}
 use Rattle.zembrusha.specs.declared.Handed.{Handed}
 use Rattle.zembrusha.specs.Exports.{handedRun}
 use Rattle.zembrusha.specs.Session.{Call, opened, previewed, committed, watched-whole, watched-ratio}
-use Rattle.zembrusha.specs.Session.{watched-refusal, saved, loaded, taken, takenCount, takenLoad, Promised, theirs}
-use Rattle.zembrusha.specs.Session.{theirNext, Run, allTheirs, Session, first}
+use Rattle.zembrusha.specs.Session.{watched-refusal, saved, loaded, taken, takenCount, takenLoad, Promised}
+use Rattle.zembrusha.specs.Session.{theirs, theirNext, Run, allTheirs, Session, first}
 
 -- ---- a call
 -- there is an answer that reads what a watch gives
@@ -54,8 +57,8 @@ module _ (f : Form) where
   call-calculated s x (loaded text a y) o = record { answers = ap takenLoad (o .answers); leaves = o .leaves }
 
   -- ---- calls one after the other
-  run-calculated : (now : Standing (f .mode .Lent)) (calls : List (Call (f .mode .Lent))) (end : Standing (f .mode .Lent))
-      → Run f now calls end → calculator.Run f degreeLimit now (allTheirs f now calls) end
+  run-calculated : (now : Standing (f .mode .Lent)) (calls : List (Call (f .mode .Lent)))
+      (end : Standing (f .mode .Lent)) → Run f now calls end → calculator.Run f degreeLimit now (allTheirs f now calls) end
   unfolding Run allTheirs calculator.Run
   run-calculated now [] end r = r
   run-calculated now (call ∷ calls) end r = (
@@ -80,3 +83,18 @@ module _ {f : Form} (fa : Faithful f) {shape class : ℕ} {x : f .mode .Lent} {c
         goes-on = run-calculated f (first f s) calls end (s .goes-on);
       } in
       record { session = session; demand = demand-3 fa shape class x (allTheirs f (first f s) calls) end session }
+
+-- ---- in each mode
+pub plain-session : {shape class : ℕ} {page : List ℕ} {calls : List (Call (List ℕ))} {end : Standing (List ℕ)}
+    (s : Session plainForm shape class page calls end) → Calculated plain-faithful s
+plain-session = session-calculated plain-faithful
+
+module _ {shape class : ℕ} {page : List ℕ} {column : List ℤ} {calls : List (Call (List ℕ × List ℤ))}
+    {end : Standing (List ℕ × List ℤ)} (s : Session gatheredForm shape class (page, column) calls end) where
+  pub gathered-session : Calculated gathered-faithful s
+      × GatheredDemand3 shape class page column (allTheirs gatheredForm (first gatheredForm s) calls) end
+  gathered-session =
+      let c = session-calculated gathered-faithful s in (
+        c,
+        gathered-demand-3 shape class page column (allTheirs gatheredForm (first gatheredForm s) calls) end (c .session),
+      )

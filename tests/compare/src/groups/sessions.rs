@@ -40,6 +40,21 @@ pub fn compare_open(group: &mut Group, shape: u32, class: u32, page: &[u64]) -> 
     (refused, left)
 }
 
+/// Compares the three calls of a watch with what the model shows; its refusal number.
+pub fn compare_watch(group: &mut Group, state: &State, (kind, line): (u64, u64), model: Answer<Shown>) -> u32 {
+    let (slip, page) = state;
+    let refused = model.err().unwrap_or(0);
+    let whole = if let Ok(Shown::Whole(whole)) = model { whole } else { 0 };
+    let ratio = if let Ok(Shown::Ratio(ratio)) = model { ratio } else { 0.0 };
+    let what = || format!("watch {kind} of line {line} on {slip:?}");
+    group.same(calls::watch_whole(*slip, page, kind, line), leaves(whole, page), what);
+    let answer = calls::watch_ratio(*slip, page, kind, line);
+    group.same(answer.answer.to_bits(), ratio.to_bits(), what);
+    group.same(answer, leaves(ratio, page), what);
+    group.same(calls::watch_refusal(*slip, page, kind, line), leaves(refused, page), what);
+    refused
+}
+
 /// Everything that a random session needs at hand.
 pub struct Desk<'a> {
     pub characters: &'a Characters,
@@ -202,22 +217,9 @@ impl Desk<'_> {
             let line = if self.random.once_in(5) { wrong_line(&mut self.random, slip.lines, line) } else { line };
             if self.work.affordable(&mut self.random, &lines, kind, line) {
                 let model = sessions::watch(self.characters, slip, &lines, kind, line);
-                self.compare_watch(slip, page, (kind, line), model);
+                self.watched.count(compare_watch(self.group, state, (kind, line), model));
             }
         }
         lines.is_ok()
-    }
-
-    fn compare_watch(&mut self, slip: &Slip, page: &[u64], (kind, line): (u64, u64), model: Answer<Shown>) {
-        self.watched.count(model.err().unwrap_or(0));
-        let what = || format!("watch {kind} of line {line} on {slip:?}");
-        let whole = if let Ok(Shown::Whole(whole)) = model { whole } else { 0 };
-        let ratio = if let Ok(Shown::Ratio(ratio)) = model { ratio } else { 0.0 };
-        self.group.same(calls::watch_whole(*slip, page, kind, line), leaves(whole, page), what);
-        let answer = calls::watch_ratio(*slip, page, kind, line);
-        self.group.same(answer.answer.to_bits(), ratio.to_bits(), what);
-        self.group.same(answer, leaves(ratio, page), what);
-        let refused = model.err().unwrap_or(0);
-        self.group.same(calls::watch_refusal(*slip, page, kind, line), leaves(refused, page), what);
     }
 }

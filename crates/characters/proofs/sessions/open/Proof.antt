@@ -4,6 +4,7 @@ use Prim.Native.Nat.{ℕ, _%_, _^_}
 use native.Mathlib.Omega.{arith}
 use borrow.Author.Needs.{needs}
 use Rattle.theory.specs.Limits.{degreeLimit}
+use Rattle.pages.proofs.ZerosBehind.{cleared-whole}
 use Rattle.pages.proofs.WordPairs.{Pair, pair-refused, pair-passed}
 use Rattle.characters.proofs.Openings.{words-refuse, page-refuses, empty-opens, room-refuses, line-opens}
 use Rattle.characters.proofs.sessions.open.Statement.{statement}
@@ -33,8 +34,8 @@ unopened-requires-2 c κs = search needs
 returns-2 : tie.Need-returns-2
 returns-2 c = rw (c .unopened2 .ensures) (page-refuses _ _ _ _ (pair (c .before .before) .none) (c .before .if2 .taken))
 
-clear-requires : tie.Need-clear-requires
-clear-requires c κs = search needs
+words-requires : tie.Need-words-requires
+words-requires c κs = search needs
 
 same-length : tie.Need-same-length
 same-length c = search needs
@@ -44,7 +45,7 @@ returns-3 c =
     let then = c .before .before .before .before in
     let else2 = then .before .before in
     let p = pair (else2 .before) in
-    rw (c .before .before .clear .ensures)
+    rw (c .before .before .words .ensures, cleared-whole {A = ℕ} 0 _)
     (empty-opens _ _ _ _ (p .none) (else2 .if2 .left) _ (p .shape) (sym (p .degree) ∙ then .if3 .taken))
 
 unopened-requires-3 : tie.Need-unopened-requires-3
@@ -59,8 +60,8 @@ returns-4 c =
     (room-refuses _ _ _ _ (p .none) (else2 .if2 .left) (λ none. else3 .if3 .left (p .degree ∙ none))
     (c .before .if4 .taken))
 
-clear-requires-2 : tie.Need-clear-requires-2
-clear-requires-2 c κs = search needs
+words-requires-2 : tie.Need-words-requires-2
+words-requires-2 c κs = search needs
 
 word-requires : tie.Need-word-requires
 word-requires c κs = search needs
@@ -79,7 +80,7 @@ returns-5 c =
     let p = pair (else2 .before) in
     let w : ℕ = else2 .before .before .before .common-degree .result .shape in
     let plus : w % 2 ^ 31 ≡ w = omega (arith, p .words .shape .good .below) in
-    rw (c .before .before .before .clear2 .ensures, c .word .ensures, plus)
+    rw (c .before .before .before .words2 .ensures, cleared-whole {A = ℕ} 0 _, c .word .ensures, plus)
     (line-opens _ _ _ _ (p .none) (else2 .if2 .left) (λ none. else3 .if3 .left (p .degree ∙ none)) w (p .shape)
     (else4 .if4 .left))
 
@@ -92,12 +93,12 @@ open-spec =
     returns
     unopened-requires-2
     returns-2
-    clear-requires
+    words-requires
     same-length
     returns-3
     unopened-requires-3
     returns-4
-    clear-requires-2
+    words-requires-2
     word-requires
     slice-write-page
     same-length-2

@@ -11,7 +11,8 @@ use Rattle.theory.specs.Basics.{getD}
 use Rattle.theory.specs.Limits.{degreeLimit}
 use Rattle.theory.specs.Bounds.Laws.{largestLimit}
 use Rattle.pages.specs.Line.{signedCharacter}
-use Rattle.pages.specs.Page.{lineOf, waiting, lineAt}
+use Rattle.pages.specs.Page.{lineOf, lineAt}
+use Rattle.pages.specs.Mode.{waiting}
 use Rattle.pages.specs.Sound.Laws.{SoundLine, line-wider}
 use Rattle.pages.specs.Lawful.Plain.{plain-lawful}
 use Rattle.pages.proofs.Signed.{carried}

@@ -1,14 +1,15 @@
 -- `gathered::columns::begin` meets its contract: zeros, and before them 1 where a line waits.
-use mathlib.Core.Path.{_≡_}
+use mathlib.Core.Path.{_≡_, refl}
 use native.Mathlib.Omega.{arith}
 use borrow.Author.Needs.{needs}
-use Rattle.theory.specs.Basics.{length}
-use Rattle.gathered.proofs.Filled.{no-line, one-line}
+use Rattle.theory.specs.Basics.{length, pos}
+use Rattle.pages.proofs.ZerosBehind.{cleared-whole}
+use Rattle.gathered.proofs.Filled.{one-line}
 use Rattle.gathered.proofs.columns.begin.Statement.{statement}
 use Rattle.gathered.proofs.columns.begin.Tie as tie
 
-clear-requires : tie.Need-clear-requires
-clear-requires c κs = search needs
+coefficients-requires : tie.Need-coefficients-requires
+coefficients-requires c κs = search needs
 
 slice-set-of-column : tie.Need-slice-set-of-column
 slice-set-of-column c = search needs
@@ -19,7 +20,7 @@ same-length c = search needs
 returns : tie.Need-returns
 returns c =
     let start = c .before .before .before .before in
-    rw (c .before .before .clear .ensures, c .if1 .taken)
+    rw (c .before .before .coefficients .ensures, cleared-whole (pos 0) _, c .if1 .taken)
     (one-line (length (start .args .column .now)) (omega (arith, start .pre .1, c .if1 .taken)))
 
 same-length-2 : tie.Need-same-length-2
@@ -29,9 +30,9 @@ returns-2 : tie.Need-returns-2
 returns-2 c =
     let start = c .before .before .before .before in
     let none : start .args .lines ≡ 0 = omega (arith, start .pre .0, c .if1 .left) in
-    rw (c .before .before .clear .ensures, none) (no-line (length (start .args .column .now)))
+    rw (c .before .before .coefficients .ensures, none) refl
 
 pub begin-spec : {M : Type 1} → statement M
 begin-spec =
     tie.close
-    (tie.spec clear-requires slice-set-of-column same-length returns same-length-2 returns-2)
+    (tie.spec coefficients-requires slice-set-of-column same-length returns same-length-2 returns-2)

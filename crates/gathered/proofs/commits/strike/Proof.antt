@@ -7,7 +7,7 @@ use Rattle.words.specs.Answers.{Outcome}
 use Rattle.characters.specs.Step.{commit}
 use Rattle.gathered.specs.Private.Alone.{alone}
 use Rattle.gathered.proofs.Alone.{paged}
-use Rattle.gathered.proofs.Strikes.{strike-refused, fewer, left-long, times-fits, strike-done}
+use Rattle.gathered.proofs.Strikes.{strike-refused, fewer, left-long, size-carried, times-fits, strike-done}
 use Rattle.gathered.proofs.commits.strike.Statement.{statement}
 use Rattle.gathered.proofs.commits.strike.Tie as tie
 
@@ -75,7 +75,7 @@ weigh-requires c κs =
     (omega (arith, few, left-long _ _ (s .pre .0) _ _ (outcome k) (e .if1 .left))) in (
       omega (arith, long, few, s .pre .2),
       omega (arith, long, few, s .pre .3),
-      times-fits _ _ (s .pre .0) _ _ (outcome k) (e .if1 .left) (s .pre .1) .0,
+      size-carried _ _ (s .pre .0) _ _ (outcome k) (e .if1 .left) (s .pre .1),
     )
 
 times-requires : tie.Need-times-requires

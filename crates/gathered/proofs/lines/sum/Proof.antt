@@ -9,9 +9,9 @@ use Rattle.theory.specs.Limits.{degreeLimit}
 use Rattle.pages.specs.Mode.{weighted, alongside}
 use Rattle.pages.specs.Sound.{lineValue}
 use Rattle.pages.specs.Sound.Bounds.{line-bounded}
-use Rattle.pages.specs.Lawful.Gathered.{length-alongside}
+use Rattle.pages.specs.Lawful.Gathered.{length-alongside, alongside-at}
 use Rattle.characters.proofs.Sums.{Summing, NextLine, sum-start, sum-next, sum-end}
-use Rattle.gathered.proofs.Reading.{wordAt, coefficientAt, alongside-at}
+use Rattle.gathered.proofs.Reading.{wordAt, coefficientAt}
 use Rattle.gathered.proofs.Weights.{handed-sound, handed-carried}
 use Rattle.gathered.proofs.lines.sum.Statement.{statement}
 use Rattle.gathered.proofs.lines.sum.Tie as tie
@@ -63,8 +63,8 @@ signed-character-requires c κs =
     let turn = c .before .before in
     handed-sound _ _ (next turn .soundness) (room turn)
 
-plus-requires : tie.Need-plus-requires Inv-loop μ-loop
-plus-requires c κs =
+add-requires : tie.Need-add-requires Inv-loop μ-loop
+add-requires c κs =
     let turn = c .before .before .before in
     rw (handed-carried _ _ (next turn .soundness) (room turn) _ (c .signed-character .ensures))
     (omega (arith, line-bounded (next turn .soundness), next turn .room))
@@ -79,7 +79,7 @@ loop-again : tie.Need-loop-again Inv-loop μ-loop
 loop-again c =
     let turn = c .before .before .before .before in
     rw (
-      c .plus .ensures,
+      c .add .ensures,
       handed-carried _ _ (next turn .soundness) (room turn) _ (c .before .signed-character .ensures),
     )
     (next turn .again)
@@ -103,7 +103,7 @@ sum-spec =
     mul-signed-character-2
     shared-slice-copy-out-signed-character
     signed-character-requires
-    plus-requires
+    add-requires
     add-i
     loop-less
     loop-again

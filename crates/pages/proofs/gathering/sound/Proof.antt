@@ -134,7 +134,8 @@ returns-3 c =
     let f = fitting-then differs in
     let a = begin f .args in
     c .coefficients .ensures ∙ ap (every (λ z. natAbs z =? 0)) (all-from (a .coefficients .now) (a .slip .lines))
-    ∙ then-column _ (a .slip) _ _ (says f) (f .if2 .left) (same f) (are-paid (paid (differs .before))) (are-apart differs)
+    ∙ then-column _ (a .slip) _ _ (says f) (f .if2 .left) (same f) (are-paid (paid (differs .before)))
+    (are-apart differs)
     (sym (is-idle (then5 .before)) ∙ then5 .if5 .taken)
 
 returns-4 : tie.Need-returns-4

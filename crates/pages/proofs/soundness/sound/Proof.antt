@@ -4,8 +4,7 @@ use borrow.Author.Needs.{needs}
 use lib.Seq.{length-take-le}
 use Rattle.theory.specs.Basics.{_=?_, every}
 use Rattle.theory.specs.Limits.{degreeLimit}
-use Rattle.pages.specs.Page.{waiting}
-use Rattle.pages.specs.Mode.{plainMode}
+use Rattle.pages.specs.Mode.{plainMode, waiting}
 use Rattle.pages.specs.Budget.{budgetOf, spentAll, Budget}
 use Rattle.pages.proofs.SpanTable.{factorials-table, spans-tabled}
 use Rattle.pages.proofs.SoundPages.{other-mode, lines-long, lines-dear, then-zeros}

@@ -6,8 +6,7 @@ use mir.Syntax.{w64}
 use mir.Val.{toZ, ofZ}
 use Rattle.theory.specs.Basics.{_-_, length}
 use Rattle.text.specs.Reading.Lines.{Next, next}
-use Rattle.sessiontext.proofs.Words.{held-fits}
-use Rattle.sessiontext.proofs.CoefficientLines.{Down, down-none, down-all, down-held, down-room, down-next}
+use Rattle.sessiontext.proofs.CoefficientLines.{Down, down-none, down-all, down-room, down-next}
 use borrow.Author.Needs.{needs}
 use Rattle.sessiontext.proofs.coefficients.put.Statement.{statement}
 use Rattle.sessiontext.proofs.coefficients.put.Tie as tie
@@ -24,14 +23,9 @@ ends : (c : tie.After-line-end Inv-loop μ-loop)
 ends c = next _ _ _ (c .line-end .ensures)
 
 -- the coefficient as it is handed on
-handed : (c : tie.After-waiting-line Inv-loop μ-loop) → let z = c .waiting-line .result .coefficient in
+handed : (c : tie.After-line-in Inv-loop μ-loop) → let z = c .line-in .result .coefficient in
     toZ w64 (ofZ w64 z) ≡ z
-handed c =
-    let e = c .before .before in
-    let l = e .before in
-    toZ-ofZ {w = w64}
-    (held-fits _
-    (down-held _ _ _ _ (l .before .loop .inv) (l .loop-test .taken) (e .line-end .ensures) (c .waiting-line .ensures)))
+handed c = toZ-ofZ (search needs)
 
 loop-holds : tie.Need-loop-holds Inv-loop μ-loop
 loop-holds c =
@@ -41,17 +35,17 @@ loop-holds c =
 line-end-requires : tie.Need-line-end-requires Inv-loop μ-loop
 line-end-requires c κs = search needs
 
-sub-waiting-line : tie.Need-sub-waiting-line Inv-loop μ-loop
-sub-waiting-line c = ends c .from
+sub-line-in : tie.Need-sub-line-in Inv-loop μ-loop
+sub-line-in c = ends c .from
 
-part-waiting-line-start : tie.Need-part-waiting-line-start Inv-loop μ-loop
-part-waiting-line-start c = ends c .from
+part-line-in-start : tie.Need-part-line-in-start Inv-loop μ-loop
+part-line-in-start c = ends c .from
 
-part-waiting-line-end : tie.Need-part-waiting-line-end Inv-loop μ-loop
-part-waiting-line-end c = ends c .fits (c .before .before .loop .inv .fits)
+part-line-in-end : tie.Need-part-line-in-end Inv-loop μ-loop
+part-line-in-end c = ends c .fits (c .before .before .loop .inv .fits)
 
-waiting-line-requires : tie.Need-waiting-line-requires Inv-loop μ-loop
-waiting-line-requires c κs = search needs
+line-in-requires : tie.Need-line-in-requires Inv-loop μ-loop
+line-in-requires c κs = search needs
 
 mul-page : tie.Need-mul-page Inv-loop μ-loop
 mul-page c = search needs
@@ -60,7 +54,7 @@ slice-write-page : tie.Need-slice-write-page Inv-loop μ-loop
 slice-write-page c =
     let e = c .before .before in
     let l = e .before in
-    down-room _ _ _ _ (l .before .loop .inv) (l .loop-test .taken) (e .line-end .ensures) (c .waiting-line .ensures) .0
+    down-room _ _ _ _ (l .before .loop .inv) (l .loop-test .taken) (e .line-end .ensures) (c .line-in .ensures) .0
 
 mul-coefficient : tie.Need-mul-coefficient Inv-loop μ-loop
 mul-coefficient c = search needs
@@ -70,7 +64,7 @@ slice-set-from-coefficient c =
     let r = c .before in
     let e = r .before .before in
     let l = e .before in
-    down-room _ _ _ _ (l .before .loop .inv) (l .loop-test .taken) (e .line-end .ensures) (r .waiting-line .ensures) .1
+    down-room _ _ _ _ (l .before .loop .inv) (l .loop-test .taken) (e .line-end .ensures) (r .line-in .ensures) .1
 
 add-count : tie.Need-add-count Inv-loop μ-loop
 add-count c = search needs
@@ -86,7 +80,7 @@ loop-again c =
     let e = r .before .before in
     let l = e .before in
     rw (handed r)
-    (down-next _ _ _ _ (l .before .loop .inv) (l .loop-test .taken) (e .line-end .ensures) (r .waiting-line .ensures))
+    (down-next _ _ _ _ (l .before .loop .inv) (l .loop-test .taken) (e .line-end .ensures) (r .line-in .ensures))
 
 same-length : tie.Need-same-length Inv-loop μ-loop
 same-length c = c .before .loop .inv .same
@@ -105,10 +99,10 @@ put-spec =
     μ-loop
     loop-holds
     line-end-requires
-    sub-waiting-line
-    part-waiting-line-start
-    part-waiting-line-end
-    waiting-line-requires
+    sub-line-in
+    part-line-in-start
+    part-line-in-end
+    line-in-requires
     mul-page
     slice-write-page
     mul-coefficient

@@ -23,7 +23,7 @@ use Rattle.sessiontext.specs.Reading.Forms.{WaitingBy, formed}
 use Rattle.sessiontext.specs.Private.Weighted.{ReadFronted, Taken, readAs}
 use Rattle.sessiontext.proofs.Loading.{head-fault, line-fault, lent-refuses, text-faulty, lines-many}
 use Rattle.sessiontext.proofs.Loading.{lines-unsound, loads}
-use Rattle.sessiontext.proofs.GatheredLoading.{words-fit, weights-fit, put-down}
+use Rattle.sessiontext.proofs.GatheredLoading.{put-down}
 use borrow.Author.Needs.{needs}
 use Rattle.sessiontext.proofs.gathered.load.Statement.{statement}
 use Rattle.sessiontext.proofs.gathered.load.Tie as tie
@@ -214,17 +214,11 @@ put-requires c κs =
     let b = begin (head-read e) in
     (taken e .fits, (taken e .formed, (omega (arith, taken e .count, room e), alike b)))
 
-clear-requires : tie.Need-clear-requires
-clear-requires c κs =
-    let p = c .before .before .before .before in
-    let e = p .before .before .before .before .before in
-    words-fit (read (head-read e) .slip) _ (taken e .count) (room e) (alike (begin (head-read e))) (p .put .ensures)
+words-requires : tie.Need-words-requires
+words-requires c κs = search needs
 
-clear-requires-2 : tie.Need-clear-requires-2
-clear-requires-2 c κs =
-    let p = c .before .before .before .before .before .before .before .before in
-    let e = p .before .before .before .before .before in
-    weights-fit (read (head-read e) .slip) _ (taken e .count) (room e) (alike (begin (head-read e))) (p .put .ensures)
+coefficients-requires : tie.Need-coefficients-requires
+coefficients-requires c κs = search needs
 
 same-length : tie.Need-same-length
 same-length c = search needs
@@ -246,8 +240,8 @@ returns-7 c =
     (loads gathered-faithful (text b) (lent b) (passes b) (good (lines-read e)) (its-room e) (sound-is s)
     (not-false _ (i .if6 .left))
     (rw (its-lines h) at
-    (put-down (read h .slip) _ (taken e .count) (room e) (alike b) (p .put .ensures) (k1 .clear .ensures)
-    (k2 .clear2 .ensures))))
+    (put-down (read h .slip) _ (taken e .count) (room e) (alike b) (p .put .ensures) (k1 .words .ensures)
+    (k2 .coefficients2 .ensures))))
 
 pub load-spec : {M : Type 1} → statement M
 load-spec =
@@ -269,8 +263,8 @@ load-spec =
     unloaded-requires-6
     returns-6
     put-requires
-    clear-requires
-    clear-requires-2
+    words-requires
+    coefficients-requires
     same-length
     same-length-2
     returns-7)

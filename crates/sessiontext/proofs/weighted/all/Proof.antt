@@ -15,12 +15,11 @@ use Rattle.text.specs.Wrote.{most, Wrote}
 use Rattle.text.specs.Wrote.Laws.{wrote-none, wrote-then, wrote-length}
 use Rattle.pages.specs.Page.{lineOf, lineAt}
 use Rattle.pages.specs.Mode.{weighted, alongside}
-use Rattle.pages.specs.Lawful.Gathered.{length-alongside}
+use Rattle.pages.specs.Lawful.Gathered.{length-alongside, alongside-at}
 use Rattle.sessiontext.specs.SessionText.{gatheredForm, lineTextBy}
 use Rattle.sessiontext.specs.SessionText.Faithful.Gathered.{gathered-faithful}
 use Rattle.sessiontext.specs.SessionText.Storable.{StorableLineBy}
 use Rattle.sessiontext.proofs.Words.{held-fits}
-use Rattle.sessiontext.proofs.Alongside.{alongside-at}
 use borrow.Author.Needs.{needs}
 use Rattle.sessiontext.proofs.weighted.all.Statement.{statement}
 use Rattle.sessiontext.proofs.weighted.all.Tie as tie

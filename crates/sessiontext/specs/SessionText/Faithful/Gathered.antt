@@ -30,7 +30,8 @@ held-shorter (negsuc n) h = omega (arith, ltb-true n (2 ^ 63) h)
 pub coefficient-back : (z : ℤ) → held z ≡ true → integerIn (ascii "line=" ++ integer z) ≡ z
 coefficient-back z h =
     ap integerIn (sym (append-nil (ascii "line=" ++ integer z)))
-    ∙ integer-back (ascii "line=") [] (each-not isDigit (ascii "line=") refl) tt (each-not (_=? 45) (ascii "line=") refl)
+    ∙ integer-back (ascii "line=") [] (each-not isDigit (ascii "line=") refl) tt
+    (each-not (_=? 45) (ascii "line=") refl)
     tt z (held-below z h)
 
 unfoldable pub gathered-faithful : Faithful gatheredForm

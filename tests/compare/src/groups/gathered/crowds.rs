@@ -1,7 +1,7 @@
 //! Crowded pages: a line is struck whose hooks meet lines that are there already, some with just the coefficient that
 //! cancels, among up to 4,095 others and in any order, on pages that are just long enough for what is left, and on
-//! pages with a word less. Then the same with one line made equal to another, or nearly. And pages of lines that are
-//! alike in one half of their words.
+//! pages with a word less. Then the same with one line made equal to another, or nearly. Pages of lines that are alike
+//! in one half of their words; and pages of many counts of lines.
 
 use super::made::{coefficient, equal, session_of};
 use super::{compare_commit, compare_preview, compare_save, compare_watch, watched};
@@ -24,19 +24,20 @@ const FULL_ONCE_IN: usize = 75;
 const GREATEST: usize = 12;
 
 /// A line, a cycle of its class, and the hooks that make lines, with their own signs.
-struct Struck {
-    line: Line,
-    cycle: u64,
-    hooks: Vec<Line>,
+pub struct Struck {
+    pub line: Line,
+    pub cycle: u64,
+    pub hooks: Vec<Line>,
 }
 
 /// Everything that these comparisons need at hand.
-struct Crowds<'a> {
-    characters: &'a Characters,
-    random: Random,
-    group: &'a mut Group,
+pub struct Crowds<'a> {
+    pub characters: &'a Characters,
+    pub random: Random,
+    pub group: &'a mut Group,
     committed: Tally,
-    judged: Tally,
+    pub judged: Tally,
+    pub loaded: Tally,
     joined: usize,
     cancelled: usize,
     /// How often a page took a commit that has no room before its lines are gathered.
@@ -44,8 +45,17 @@ struct Crowds<'a> {
 }
 
 pub fn run(characters: &Characters, group: &mut Group) {
-    let (random, committed, judged) = (Random(21), Tally::default(), Tally::default());
-    let mut crowds = Crowds { characters, random, group, committed, judged, joined: 0, cancelled: 0, spared: 0 };
+    let mut crowds = Crowds {
+        characters,
+        random: Random(21),
+        group,
+        committed: Tally::default(),
+        judged: Tally::default(),
+        loaded: Tally::default(),
+        joined: 0,
+        cancelled: 0,
+        spared: 0,
+    };
     for at in 0..PAGES {
         let most = if at % FULL_ONCE_IN == 0 { PAGE_LIMIT } else { 2 + at % 60 };
         crowds.page(most);
@@ -53,13 +63,16 @@ pub fn run(characters: &Characters, group: &mut Group) {
     for listing in characters.listings[1..=GREATEST].iter().cycle().take(5 * GREATEST) {
         crowds.alike(listing);
     }
-    let Crowds { group, committed, judged, joined, cancelled, spared, .. } = crowds;
+    crowds.counts();
+    let Crowds { group, committed, judged, loaded, joined, cancelled, spared, .. } = crowds;
     group.same(committed.lacking(&[0, 10], 100), vec![], || "commit refusals hardly met".to_string());
     group.same(judged.lacking(&[0, 7], 500), vec![], || "pages hardly judged".to_string());
+    group.same(loaded.lacking(&[0, 7, 10], 100), vec![], || "load refusals hardly met".to_string());
     group.same([joined, cancelled, spared].iter().all(|&times| times > 200), true, || "hardly crowded".to_string());
     group.note(format!("{joined} joined, {cancelled} cancelled, {spared} with room only after gathering"));
     group.note(format!("commits: {}", committed.said()));
     group.note(format!("judged: {}", judged.said()));
+    group.note(format!("loads: {}", loaded.said()));
 }
 
 impl Crowds<'_> {
@@ -124,13 +137,13 @@ impl Crowds<'_> {
     }
 
     /// The slip of a session of degree 16; settled may have any sign.
-    fn slip(&mut self) -> Slip {
+    pub fn slip(&mut self) -> Slip {
         let settled = self.random.below(2_000_001) as i64 - 1_000_000;
         Slip { shape: pack_shape(&[16]), class: pack_class(&[16]), settled, ..Slip::default() }
     }
 
     /// A line that is struck, with one hook that makes a line at least.
-    fn struck(&mut self) -> Struck {
+    pub fn struck(&mut self) -> Struck {
         loop {
             let degree = 2 + self.random.below(GREATEST - 1);
             let line = random_line(self.characters, &mut self.random, degree);
@@ -147,7 +160,7 @@ impl Crowds<'_> {
     }
 
     /// Other lines, up to so many in all, which the strike does not meet.
-    fn fill(&mut self, lines: &mut Vec<Line>, known: &mut HashSet<u64>, most: usize) {
+    pub fn fill(&mut self, lines: &mut Vec<Line>, known: &mut HashSet<u64>, most: usize) {
         while lines.len() < most {
             let degree = 1 + self.random.below(GREATEST);
             let line = random_line(self.characters, &mut self.random, degree);
@@ -157,17 +170,17 @@ impl Crowds<'_> {
         }
     }
 
-    fn shuffle(&mut self, lines: &mut [Line]) {
+    pub fn shuffle(&mut self, lines: &mut [Line]) {
         for at in (1..lines.len()).rev() {
             lines.swap(at, self.random.below(at + 1));
         }
     }
 
     /// A preview, its commit, and commits with no strip and with another.
-    fn strike(&mut self, session: &Session, named: Named) {
+    pub fn strike(&mut self, session: &Session, named: Named) {
         let (_, strip) = compare_preview(self.group, session, named, &[7; STRIP]);
         let (refused, next) = compare_commit(self.group, session, named, &strip);
-        let hooks = hook_words(session, named.line, named.cycle).unwrap().len();
+        let hooks = hook_words(session, named.line, named.cycle).unwrap_or_default().len();
         if refused == 0 && session.slip.lines as usize - 1 + hooks > session.page.len() {
             self.spared += 1;
         }

@@ -15,20 +15,39 @@ const WORDS: usize = 5;
 /// A line's word and its coefficient.
 type Line = (u64, i64);
 
-/// What a strike names, and what then is settled and waits.
-type Strike<'a> = (u64, u64, i64, &'a [Line]);
+/// What a strike names, the hooks that its preview shows, and what then is settled and waits.
+type Strike<'a> = (u64, u64, &'a [u64], i64, &'a [Line]);
 
 const TEXT: &str = "mode=gathered\ndegree=8\nshape=4,4\nclass=2,2,2,2\nsteps=3\nsettled=0\nlines=3\n\
     line=2;2,2;2,2\nline=-1;3,1;2,2\nline=1;4;2,2\n";
 
 pub fn run(_: &Characters, group: &mut Group) {
     let joined: [Strike; 8] = [
-        (0, 2, 0, &[(0x1C00_0000_2A00_0000, -1), (0x3600_0000_2A00_0000, 1)]),
-        (0, 2, 0, &[(0x3600_0000_2A00_0000, 1), (0x1800_0000_2800_0000, 1), (0x3400_0000_2800_0000, -1)]),
-        (0, 2, 0, &[(0x1800_0000_2800_0000, 2), (0x3400_0000_2800_0000, -1), (0x3C00_0000_2800_0000, 1)]),
         (
             0,
             2,
+            &[0x9C00_0000_2A00_0000, 0x3600_0000_2A00_0000],
+            0,
+            &[(0x1C00_0000_2A00_0000, -1), (0x3600_0000_2A00_0000, 1)],
+        ),
+        (
+            0,
+            2,
+            &[0x9800_0000_2800_0000, 0x3400_0000_2800_0000],
+            0,
+            &[(0x3600_0000_2A00_0000, 1), (0x1800_0000_2800_0000, 1), (0x3400_0000_2800_0000, -1)],
+        ),
+        (
+            0,
+            2,
+            &[0x1800_0000_2800_0000, 0x3C00_0000_2800_0000],
+            0,
+            &[(0x1800_0000_2800_0000, 2), (0x3400_0000_2800_0000, -1), (0x3C00_0000_2800_0000, 1)],
+        ),
+        (
+            0,
+            2,
+            &[0x9000_0000_2000_0000, 0x3000_0000_2000_0000],
             0,
             &[
                 (0x3400_0000_2800_0000, -1),
@@ -37,17 +56,29 @@ pub fn run(_: &Characters, group: &mut Group) {
                 (0x3000_0000_2000_0000, 2),
             ],
         ),
-        (0, 2, 0, &[(0x3C00_0000_2800_0000, 1), (0x1000_0000_2000_0000, -3), (0x3000_0000_2000_0000, 2)]),
-        (0, 2, 0, &[(0x1000_0000_2000_0000, -3), (0x3000_0000_2000_0000, 3)]),
-        (0, 2, 3, &[(0x3000_0000_2000_0000, 3)]),
-        (0, 2, 6, &[]),
+        (
+            0,
+            2,
+            &[0x1000_0000_2000_0000],
+            0,
+            &[(0x3C00_0000_2800_0000, 1), (0x1000_0000_2000_0000, -3), (0x3000_0000_2000_0000, 2)],
+        ),
+        (0, 2, &[0x3000_0000_2000_0000], 0, &[(0x1000_0000_2000_0000, -3), (0x3000_0000_2000_0000, 3)]),
+        (0, 2, &[], 3, &[(0x3000_0000_2000_0000, 3)]),
+        (0, 2, &[], 6, &[]),
     ];
     let sessions = play(group, 0x1E00_0000_2A80_0000, &joined);
     text(group, &sessions[3]);
     let cancelled: [Strike; 3] = [
-        (0, 2, 0, &[(0x1000_0000_6000_0000, -1), (0x3000_0000_6000_0000, 1)]),
-        (1, 1, 0, &[(0x1000_0000_6000_0000, -1), (0x2000_0000_4000_0000, 1)]),
-        (0, 1, 0, &[]),
+        (
+            0,
+            2,
+            &[0x9000_0000_6000_0000, 0x3000_0000_6000_0000],
+            0,
+            &[(0x1000_0000_6000_0000, -1), (0x3000_0000_6000_0000, 1)],
+        ),
+        (1, 1, &[0x2000_0000_4000_0000], 0, &[(0x1000_0000_6000_0000, -1), (0x2000_0000_4000_0000, 1)]),
+        (0, 1, &[0x2000_0000_4000_0000], 0, &[]),
     ];
     play(group, 0x1800_0000_3800_0000, &cancelled);
 }
@@ -68,9 +99,12 @@ fn play(group: &mut Group, begun: u64, strikes: &[Strike]) -> Vec<Session> {
     let opened = calls::open((begun >> 32) as u32, begun as u32, &[7; WORDS], &[7; WORDS]);
     let model = super::lent((0, sessions[0].slip), &sessions[0]);
     group.same(opened, model, || format!("gathered open of {begun:x}"));
-    for (steps, &(line, cycle, settled, lines)) in (1..).zip(strikes) {
+    for (steps, &(line, cycle, hooks, settled, lines)) in (1..).zip(strikes) {
         let (before, after) = (sessions.last().unwrap(), session(begun, settled, steps, lines));
-        let strip = calls::preview(before, line, cycle, &[7; STRIP]).answer.answer.run;
+        let strip = [hooks, &[7; STRIP][hooks.len()..]].concat();
+        let previewed = calls::preview(before, line, cycle, &[7; STRIP]);
+        let model = super::lent(leaves((hooks.len() as u64, 0), &strip), before);
+        group.same(previewed, model, || format!("preview {steps} of {begun:x}"));
         let committed = calls::commit(before, line, cycle, &strip);
         let model = super::lent(leaves((0, after.slip), &strip), &after);
         group.same(committed, model, || format!("strike {steps} of {begun:x}"));

@@ -1,6 +1,7 @@
 //! Gathered sessions: each call compared with what the model answers, and with what it leaves on the page, in the
 //! column of coefficients and in any other lent run.
 
+mod counts;
 pub mod crowds;
 pub mod ends;
 pub mod examples;

@@ -6,14 +6,13 @@ use super::{compare_commit, compare_preview, compare_save, compare_watch, watche
 use crate::calls;
 use crate::calls::gathered as joined_calls;
 use crate::groups::made::WRONG_MODES;
-use crate::groups::sessions::State;
+use crate::groups::sessions::{self, State};
 use crate::groups::strips::{self, Named, STRIP};
 use crate::groups::texts;
 use crate::groups::Tally;
-use crate::lent::leaves;
 use crate::model::characters::Characters;
 use crate::model::gathered::Session;
-use crate::model::sessions::{sound, Slip, GATHERED, PAGE_LIMIT, PLAIN};
+use crate::model::sessions::{sound, watch, Slip, GATHERED, PAGE_LIMIT, PLAIN};
 use crate::model::words::{pack_class, pack_shape, read_class};
 use crate::model::Parts;
 use crate::random::Random;
@@ -22,6 +21,9 @@ use std::collections::BTreeMap;
 
 /// Up to this degree every shape goes on every class.
 const SMALL: usize = 8;
+
+/// How often each session is played, each time with other lines and cycles.
+const PASSES: usize = 4;
 
 /// A session in either mode, of one shape and class.
 struct Both {
@@ -35,11 +37,13 @@ pub fn run(characters: &Characters, group: &mut Group) {
         let (struck, left) = compare_modes(&mut random, group, rows, parts);
         (steps, cancelled) = (steps + struck, cancelled + left);
     };
-    for listing in &characters.listings[..=SMALL] {
-        listing.iter().for_each(|rows| listing.iter().for_each(|parts| ended(group, rows, parts)));
-    }
-    for rows in &characters.listings[12] {
-        ended(group, rows, &vec![2; 6]);
+    for _ in 0..PASSES {
+        for listing in &characters.listings[..=SMALL] {
+            listing.iter().for_each(|rows| listing.iter().for_each(|parts| ended(group, rows, parts)));
+        }
+        for rows in &characters.listings[12] {
+            ended(group, rows, &vec![2; 6]);
+        }
     }
     let mut met = Tally::default();
     for mode in WRONG_MODES.into_iter().chain([PLAIN]) {
@@ -147,8 +151,8 @@ fn other_modes(characters: &Characters, group: &mut Group, mode: u32, met: &mut 
         (page[0], column[0]) = (line, 1);
         let slip = Slip { shape, class, lines: 1, mode, ..Slip::default() };
         let (state, named) = ((slip, page.clone()), Named { line: 0, cycle: 3 });
-        let refused = sound(&slip, &page).err().unwrap_or(0);
-        met.count(refused);
+        let lines = sound(&slip, &page);
+        met.count(lines.as_ref().err().copied().unwrap_or(0));
         let (_, strip) = strips::compare_preview(group, &state, named, &[7; STRIP]);
         let (_, after) = strips::compare_commit(group, &state, named, &strip);
         group.same(after.0.mode, mode, || format!("the mode after a plain commit of {slip:?}"));
@@ -159,9 +163,8 @@ fn other_modes(characters: &Characters, group: &mut Group, mode: u32, met: &mut 
         group.same(after.slip.mode, mode, || format!("the mode after a gathered commit of {slip:?}"));
         compare_save(group, &session, &[7; 100]);
         for kind in 0..=6 {
-            let plain = calls::watch_refusal(slip, &page, kind, 0);
-            let kinds = if (1..=5).contains(&kind) { 0 } else { 15 };
-            group.same(plain, leaves(if refused == 0 { kinds } else { refused }, &page), || format!("{slip:?}"));
+            let model = watch(characters, &slip, &lines, kind, 0);
+            sessions::compare_watch(group, &state, (kind, 0), model);
             compare_watch(group, &session, (kind, 0), watched(characters, &session, kind, 0));
         }
     }

@@ -3,8 +3,7 @@
 
 use super::runs::{Desk, LENGTHS};
 use super::striking::Run;
-use super::{compare_load, compare_save, left};
-use crate::calls::gathered as calls;
+use super::{compare_load, compare_save};
 use crate::groups::Tally;
 use crate::model::gathered::Session;
 use crate::model::texts::gathered_text;
@@ -62,8 +61,7 @@ impl Desk<'_> {
         let (page, column) = self.any_runs(words, count);
         let (refused, session) = compare_load(self.group, &text, &page, &column);
         self.store.loaded.count(refused);
-        let again = calls::load(&text, &vec![5; words], &vec![-5; count]);
-        let twin = left(&again, again.answer.answer.answer.2);
-        session.map(|session| Run { session, twin })
+        let (_, twin) = compare_load(self.group, &text, &vec![5; words], &vec![-5; count]);
+        session.zip(twin).map(|(session, twin)| Run { session, twin })
     }
 }

@@ -53,7 +53,7 @@ def flowing(text):
     """A page without its code blocks and comments, each paragraph, row or item on a line."""
     text = re.sub(r'```.*?```|<!--.*?-->', '', text, flags=re.S)
     text = re.sub(r'^    .*$', '', text, flags=re.M)
-    return re.sub(r'\n(?![\n|#*-]|\d+\. )', ' ', text)
+    return re.sub(r'\n(?![\n|#*-]|\d+\. ) *', ' ', text)
 
 
 @functools.cache

@@ -46,6 +46,7 @@ from texts import (  # noqa: E402
     LEAST, MOST, by_hand, bytes_of, damaged, gathered_by_hand, loaded, put_away, saved, taken_up)
 
 CRATES = ['theory', 'text', 'words', 'listing', 'pages', 'characters', 'sessiontext']
+NO_SPECS = ['clearing']  # what some of them rest on, and that defines nothing
 LIBRARIES = ['check', 'io']  # what some of them rest on
 
 
@@ -1179,9 +1180,9 @@ def write_crate(folder, crate, modules):
 
 def copy_crates(folder):
     """The crates whose definitions are asked, with what is proved of them already (rt tells by their stamps)."""
-    lines = [text for text in open('crates.txt', encoding='utf8') if text.split(':')[0] in CRATES]
+    lines = [text for text in open('crates.txt', encoding='utf8') if text.split(':')[0] in CRATES + NO_SPECS]
     write(folder, 'crates.txt', ''.join(lines))
-    for crate in CRATES:
+    for crate in CRATES + NO_SPECS:
         shutil.copytree('crates/' + crate, '%s/crates/%s' % (folder, crate))
         if os.path.exists('target/stamp/' + crate) and os.path.isdir('target/rlib/%s.rlib' % crate):
             shutil.copytree('target/rlib/%s.rlib' % crate, '%s/target/rlib/%s.rlib' % (folder, crate))

@@ -26,7 +26,6 @@ use pages::BLANK;
 use pages::PAGE_LIMIT;
 use pages::PLAIN;
 use pages::Slip;
-use pages::clearing;
 use pages::pairs;
 use pages::soundness;
 use words::CountAnswer;

@@ -32,18 +32,19 @@ use Rattle.pages.specs.Lawful.Checks.{numbered-page, passed-page}
 use Rattle.pages.specs.Lawful.Gathered.{as-long, length-alongside, alongside-at, gathered-lawful}
 use Rattle.pages.specs.Sound.{lineValue, pageChecksIn}
 use Rattle.pages.specs.Sound.Laws.{SoundLine, SoundIn, line-wider, asked, values}
-use Rattle.pages.specs.Sound.Bounds.{asked-within}
+use Rattle.pages.specs.Sound.Bounds.{weight-counted, asked-within}
 use Rattle.pages.proofs.Signed.{carried, carried-is}
 use Rattle.characters.specs.declared.Handed.{Handed}
 use Rattle.characters.specs.Opening.{handed}
 use Rattle.characters.specs.Step.{settledHooks, waitingHooks, nextLinesIn, nextSlipIn, commitChecksIn, commitIn}
+use Rattle.characters.specs.Step.Gathered.{unlike-waiting}
 use Rattle.characters.specs.Step.Named.{Named, settled-room}
 use Rattle.gathered.specs.declared.commits.Struck.{Struck}
 use Rattle.gathered.specs.declared.joining.Joined.{Joined}
 use Rattle.gathered.specs.Private.Joining.{Small, nextOf, joinedAnswer, Joinable, joinedOnto}
 use Rattle.gathered.specs.Private.Striking.{struckChecks, Hooked, Strikes}
-use Rattle.gathered.proofs.LineSizes.{value-within, size-counted, small-beside}
-use Rattle.gathered.proofs.HookWeights.{different-waiting, waiting-sizes, lasting-waiting, unlike-waiting}
+use Rattle.gathered.proofs.LineSizes.{value-within, small-beside}
+use Rattle.gathered.proofs.HookWeights.{different-waiting, waiting-sizes, lasting-waiting}
 
 module _ (slip : Slip) (page : List ℕ) (column : List ℤ) (line cycle : ℕ) (strip : List ℕ) where
   abbrev lent : List ℕ × List ℤ
@@ -126,7 +127,7 @@ module _ (slip : Slip) (page : List ℕ) (column : List ℤ) (line cycle : ℕ) 
     small-lines : Small 1 zs
     small-lines = small-beside xs zs same
         (each-same (λ l. lineValue l ≤ values lines) (λ l. natAbs (l .weight) < 2 ^ 58) lines
-        (λ l p. omega (arith, all-small, size-counted l)) (value-within lines))
+        (λ l p. omega (arith, all-small, weight-counted l)) (value-within lines))
 
     module _ (there : line < slip .lines) where
       -- the struck line, as the code reads it
@@ -225,7 +226,7 @@ module _ (slip : Slip) (page : List ℕ) (column : List ℤ) (line cycle : ℕ) 
                 small = small-lines;
                 small-weights = small-beside hook-words hook-weights (words-long ∙ sym weights-long)
                     (rw (h .lines) (each-same _ (λ y. natAbs (y .weight) < 2 ^ 58) (waitingHooks cycle l)
-                    (λ y p. omega (arith, p, size-counted l, strikable .1)) (waiting-sizes cycle l s has)));
+                    (λ y p. omega (arith, p, weight-counted l, strikable .1)) (waiting-sizes cycle l s has)));
                 different-lines = b .0;
                 lasting-lines = b .1;
                 different-hooks = rw (h .lines) (different-waiting cycle l s has);

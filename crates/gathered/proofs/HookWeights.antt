@@ -7,10 +7,10 @@ use mathlib.Core.List.{map-map}
 use native.Mathlib.Omega.{arith}
 use borrow.Author.Tests.{eqb-true, ne-eqb}
 use lib.Signed.{nonNeg}
-use Rattle.theory.specs.Basics.{Bool, true, false, not, cond, List, [], _∷_, map, ℕ, _*_}
+use Rattle.theory.specs.Basics.{Bool, true, false, not, List, [], _∷_, map, ℕ, _*_}
 use Rattle.theory.specs.Basics.{pos, _*ℤ_, natAbs, signed, _=?_, keep, every, sum}
 use Rattle.theory.specs.Basics.Laws.{both, Each, each-same, each-member, map-same, sum-same, sum-map}
-use Rattle.theory.specs.Basics.Keep.{each-every, each-kept}
+use Rattle.theory.specs.Basics.Keep.{each-every, each-kept, keep-map}
 use Rattle.theory.specs.Basics.Integers.Products.{times-sums, times-signed, times-one}
 use Rattle.theory.specs.Partition.{degree, without}
 use Rattle.theory.specs.ShapeWord.{shapeOf}
@@ -27,27 +27,13 @@ use Rattle.pages.specs.Line.Hooks.{Has, HookLine, hook-lines, hook-line-class}
 use Rattle.pages.specs.Line.Weights.{weightOf}
 use Rattle.pages.specs.Page.{lineOf, wordOf}
 use Rattle.pages.specs.Page.Words.{line-read}
-use Rattle.pages.specs.Mode.{unit}
+use Rattle.pages.specs.Mode.{unit, wordsOf, weightsOf}
 use Rattle.pages.specs.Gathering.{alike, lasting, distinct}
 use Rattle.pages.specs.Gathering.Different.{Unlike, one-more, different-none, different-keep}
 use Rattle.pages.specs.Sound.Laws.{SoundLine}
 use Rattle.characters.specs.Step.{empty, settledHooks, waitingHooks}
 use Rattle.characters.specs.Step.Strike.{cycle-positive}
 use Rattle.gathered.specs.Private.Striking.{cleared, turned}
-use Rattle.gathered.proofs.Squeezing.{wordsOf, weightsOf}
-
-keep-map : {A B : Type 0} (test : B → Bool) (f : A → B) (xs : List A)
-    → keep test (map f xs) ≡ map f (keep (λ x. test (f x)) xs)
-keep-map test f [] = refl
-keep-map {A = A} {B = B} test f (x ∷ xs) = go (test (f x)) (keep-map test f xs)
-  where
-    kept : List A
-    kept = keep (λ y. test (f y)) xs
-
-    go : (b : Bool) → keep test (map f xs) ≡ map f kept
-        → cond b (f x ∷ keep test (map f xs)) (keep test (map f xs)) ≡ map f (cond b (x ∷ kept) kept)
-    go true rest = ap {B = List B} (λ ys. f x ∷ ys) rest
-    go false rest = rest
 
 -- ---- by their hooks
 module _ (cycle : ℕ) (l : Line) where
@@ -171,19 +157,3 @@ module _ {n : ℕ} (cycle : ℕ) (l : Line) (s : SoundLine n l) (has : Has cycle
   lasting-waiting last = each-every lasting (waitingHooks cycle l)
       (each-same (HookLine cycle l) _ (waitingHooks cycle l)
       (λ h p. ap (λ (k : ℕ). not (k =? 0)) (p .same-size) ∙ last) each-hook)
-
-  -- none is equal to the line: its degree is lower
-  pub unlike-waiting : Each (Unlike l) (waitingHooks cycle l)
-  unlike-waiting = each-same (HookLine cycle l) (Unlike l) (waitingHooks cycle l)
-      (λ h p. go h p (alike l h) refl) each-hook
-    where
-      go : (h : Line) → HookLine cycle l h → (b : Bool) → alike l h ≡ b → not b ≡ true
-      go h p true e =
-          let shapes = eqb-true (l .shape) (h .shape) (both (l .shape =? h .shape) (l .class =? h .class) e .0) in
-          absurd (omega (
-            arith,
-            p .lower,
-            cycle-positive n cycle l s has,
-            ap (λ (w : ℕ). degree (shapeOf w)) shapes,
-          ))
-      go h p false e = refl

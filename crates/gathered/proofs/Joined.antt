@@ -18,7 +18,7 @@ use Rattle.theory.specs.Basics.Keep.{same-test, length-keep}
 use Rattle.words.specs.Answers.{Outcome}
 use Rattle.pages.specs.Line.{Line}
 use Rattle.pages.specs.Page.{padded}
-use Rattle.pages.specs.Mode.{weighted, alongside, unit, gatheredMode}
+use Rattle.pages.specs.Mode.{weighted, alongside, unit, wordsOf, weightsOf, gatheredMode}
 use Rattle.pages.specs.Gathering.{alike, weighing, lasting, distinct}
 use Rattle.pages.specs.Gathering.Different.{Unlike, unlike, alike-alike, alike-back, first-unlike, rest-different}
 use Rattle.pages.specs.Gathering.Different.{coefficient-none}
@@ -26,7 +26,7 @@ use Rattle.pages.specs.Gathering.AtOnce.{bring, isNew, all-unchanged, bring-mor
 use Rattle.pages.specs.Lawful.Gathered.{length-alongside}
 use Rattle.gathered.specs.Private.Joining.{place, savedAt, savedBy, raised, picked, spares, kept, stayed, putting}
 use Rattle.gathered.proofs.Counted.{others-map}
-use Rattle.gathered.proofs.Squeezing.{wordsOf, weightsOf, word-back}
+use Rattle.gathered.proofs.Squeezing.{word-back}
 
 -- ---- lines are equal where their words are
 pub alike-words : (x y : ℕ) (z w : ℤ) → alike (weighted x z) (weighted y w) ≡ (x =? y)

@@ -1,12 +1,10 @@
--- The sizes of weights: a weight is no larger than what its line counts, and a line counts no more than all lines.
+-- The sizes of weights: a line counts no more than all lines, and small lines have small numbers beside them.
 use mathlib.Core.Path.{_≡_}
 use Prim.Native.Nat.{_≤_, _<_}
-use native.Mathlib.Nat.{le-refl, mul-le-mul, mul-one}
 use native.Mathlib.Omega.{arith}
 use Rattle.theory.specs.Basics.{List, [], _∷_, length, ℕ, zero, suc, _+_, _^_, ℤ, natAbs}
 use Rattle.theory.specs.Basics.Laws.{Each, each-same}
-use Rattle.theory.specs.Bounds.Laws.{factorial-positive}
-use Rattle.pages.specs.Line.{Line, lineDegree}
+use Rattle.pages.specs.Line.{Line}
 use Rattle.pages.specs.Mode.{alongside}
 use Rattle.pages.specs.Sound.{lineValue}
 use Rattle.pages.specs.Sound.Laws.{values}
@@ -19,11 +17,6 @@ value-within (l ∷ lines) = (
   omega arith,
   each-same _ (λ m. lineValue m ≤ lineValue l + values lines) lines (λ m p. omega arith) (value-within lines),
 )
-
-pub size-counted : (l : Line) → natAbs (l .weight) ≤ lineValue l
-size-counted l =
-    let n : ℕ = natAbs (l .weight) in
-    omega (arith, mul-one n, mul-le-mul (le-refl n) (factorial-positive (lineDegree l)))
 
 -- small numbers beside words
 pub small-beside : (xs : List ℕ) (zs : List ℤ) → length xs ≡ length zs

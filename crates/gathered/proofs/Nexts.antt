@@ -16,7 +16,7 @@ use Rattle.theory.specs.Basics.Keep.{every-each, length-keep}
 use Rattle.words.specs.Answers.{Outcome}
 use Rattle.pages.specs.Line.{Line}
 use Rattle.pages.specs.Page.{wordOf}
-use Rattle.pages.specs.Mode.{alongside, unit}
+use Rattle.pages.specs.Mode.{alongside, unit, wordsOf, weightsOf}
 use Rattle.pages.specs.Gathering.{lasting}
 use Rattle.pages.specs.Gathering.AtOnce.{bring, isNew}
 use Rattle.pages.specs.Sound.Laws.{all-zero}
@@ -25,7 +25,7 @@ use Rattle.gathered.specs.Private.Joining.{place, raised, picked, stayed
 use Rattle.gathered.specs.Private.Joining.{putting, Joins}
 use Rattle.gathered.proofs.Counted.{next-parts}
 use Rattle.gathered.proofs.Joined.{length-raised, stayed-is, picked-words, picked-weights}
-use Rattle.gathered.proofs.Squeezing.{wordsOf, weightsOf, length-words}
+use Rattle.gathered.proofs.Squeezing.{length-words}
 
 -- ---- equal elements
 module _ {A : Type 0} (e : A) where

@@ -1,17 +1,12 @@
 -- A product of two signed numbers of 64 bits that has room is the whole numbers' product.
 use mathlib.Core.Path.{_≡_, _∙_, ap₂}
 use Prim.Native.Nat.{_<_}
-use native.Mathlib.Omega.{arith}
 use mir.Facts.{toZ-ofZ}
 use mir.Syntax.{w64}
 use mir.Val.{SFits}
-use Rattle.theory.specs.Basics.{ℤ, pos, negsuc, _*ℤ_, natAbs, _*_, _^_}
+use Rattle.theory.specs.Basics.{ℤ, _*ℤ_, natAbs, _*_, _^_}
 use Rattle.theory.specs.Basics.Integers.Products.{abs-times}
-use Rattle.pages.proofs.Signed.{carried}
-
-room : (z : ℤ) → natAbs z < 2 ^ 63 → SFits w64 z
-room (pos n) l = record { sfits = l }
-room (negsuc n) l = record { sfits = omega arith }
+use Rattle.pages.proofs.Signed.{carried, room}
 
 module _ (x y : ℤ) (fits-x : SFits w64 x) (fits-y : SFits w64 y) (small : natAbs x * natAbs y < 2 ^ 63) where
   same : carried x *ℤ carried y ≡ x *ℤ y

@@ -1,6 +1,5 @@
 -- The pass that takes out the lines whose coefficient became 0.
---   wordsOf ls, weightsOf ls   the words of lines, their sign digits clear, and their weights
---   Squeezing p c q d t i      the page p and the column c have become q and d: of the first i lines t were kept
+--   Squeezing p c q d t i   the page p and the column c have become q and d: of the first i lines t were kept
 use mathlib.Core.Path.{_≡_, refl, sym, _∙_, ap, ap₂}
 use mathlib.Core.List.{append-nil, map-append}
 use Prim.Native.Nat.{_≤_, _<_}
@@ -16,7 +15,7 @@ use Rattle.theory.specs.Basics.Keep.{keep-append}
 use Rattle.words.specs.Answers.{Outcome}
 use Rattle.pages.specs.Line.{Line}
 use Rattle.pages.specs.Page.{wordOf}
-use Rattle.pages.specs.Mode.{weighted, alongside, unit}
+use Rattle.pages.specs.Mode.{weighted, alongside, unit, wordsOf, weightsOf}
 use Rattle.pages.specs.Gathering.{lasting}
 use Rattle.gathered.specs.Private.Joining.{kept, putting}
 use Rattle.gathered.proofs.Loops.{run, run-split, run-freed, run-moved}
@@ -29,12 +28,6 @@ alongside-append [] (z ∷ zs) ys ws e = absurd (omega arith)
 alongside-append (x ∷ xs) [] ys ws e = absurd (omega arith)
 alongside-append (x ∷ xs) (z ∷ zs) ys ws e =
     ap {B = List Line} (λ ls. weighted x z ∷ ls) (alongside-append xs zs ys ws (omega arith))
-
-abbrev pub wordsOf : List Line → List ℕ
-wordsOf lines = map wordOf (map unit lines)
-
-abbrev pub weightsOf : List Line → List ℤ
-weightsOf lines = map (λ l. l .weight) lines
 
 -- a word is read and written as it was
 pub word-back : (x : ℕ) (z : ℤ) → wordOf (unit (weighted x z)) ≡ x

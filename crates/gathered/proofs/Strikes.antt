@@ -31,7 +31,7 @@ use Rattle.pages.specs.Line.Hooks.{Has, hook-line-class}
 use Rattle.pages.specs.Line.Weights.{weightOf}
 use Rattle.pages.specs.Page.{lineOf, wordOf, padded}
 use Rattle.pages.specs.Page.Padded.{length-padded}
-use Rattle.pages.specs.Mode.{weighted, alongside, unit, plainMode}
+use Rattle.pages.specs.Mode.{weighted, alongside, unit, wordsOf, weightsOf, plainMode}
 use Rattle.pages.specs.Lawful.Plain.{plain-lawful}
 use Rattle.pages.specs.Lawful.Gathered.{gathered-lawful}
 use Rattle.pages.specs.Lawful.Checks.{numbered-page}
@@ -51,7 +51,7 @@ use Rattle.gathered.specs.Private.Alone.{alone}
 use Rattle.gathered.specs.Private.Striking.{cleared, turned, struckChecks, Strikes}
 use Rattle.gathered.proofs.Alone.{paged, own-line, own-sound, alone-passes}
 use Rattle.gathered.proofs.HookWeights.{settled-times, waiting-words, waiting-weights}
-use Rattle.gathered.proofs.Squeezing.{wordsOf, weightsOf, length-words}
+use Rattle.gathered.proofs.Squeezing.{length-words}
 
 abbrev struckOf : ℕ → ℕ → ℤ → Struck
 struckOf k n z = record { refused = k; count = n; settled = z }

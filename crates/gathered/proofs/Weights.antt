@@ -1,11 +1,10 @@
 -- A line's coefficient times its character, in 64 bits: both have room, as has a sum with them.
 use mathlib.Core.Path.{_≡_, _∙_, ap, ap₂}
 use Prim.Native.Nat.{_≤_, _<_}
-use native.Mathlib.Nat.{le-refl, mul-one, mul-le-mul}
 use native.Mathlib.Omega.{arith}
 use Rattle.theory.specs.Basics.{ℕ, _*_, _^_, ℤ, pos, _*ℤ_, natAbs}
 use Rattle.theory.specs.Basics.Integers.Products.{abs-times}
-use Rattle.theory.specs.Bounds.Laws.{factorial-positive, largestLimit}
+use Rattle.theory.specs.Bounds.Laws.{largestLimit}
 use Rattle.theory.specs.ShapeWord.{shapeOf}
 use Rattle.theory.specs.ShapeWord.Good.{good-shape}
 use Rattle.theory.specs.ClassWord.{classOf}
@@ -21,19 +20,14 @@ use Rattle.pages.specs.Page.{lineOf}
 use Rattle.pages.specs.Mode.{weighted}
 use Rattle.pages.specs.Sound.{lineValue}
 use Rattle.pages.specs.Sound.Laws.{SoundLine}
-use Rattle.pages.specs.Sound.Bounds.{character-within, line-bounded}
+use Rattle.pages.specs.Sound.Bounds.{weight-counted, character-within, line-bounded}
 use Rattle.pages.proofs.Signed.{carried, carried-is}
 use Rattle.characters.specs.Calls.{characterOf}
 use Rattle.gathered.proofs.Alone.{own-line}
 
 -- ---- a coefficient
-weight-within : (l : Line) → natAbs (l .weight) ≤ lineValue l
-weight-within l =
-    let size : ℕ = natAbs (l .weight) in
-    omega (arith, mul-one size, mul-le-mul (le-refl size) (factorial-positive (lineDegree l)))
-
 pub weight-carried : (l : Line) → lineValue l < 2 ^ 63 → carried (l .weight) ≡ l .weight
-weight-carried l room = carried-is (l .weight) (omega (arith, weight-within l))
+weight-carried l room = carried-is (l .weight) (omega (arith, weight-counted l))
 
 -- ---- a coefficient times a character
 module _ {limit : ℕ} (x : ℕ) (z : ℤ) (s : SoundLine limit (weighted x z)) (room : lineValue (weighted x z) < 2 ^ 63)

@@ -3,7 +3,6 @@ ghost use mathlib.Core.Path.{_≡_};
 ghost use Prim.Native.Nat.{_≤_, _-_};
 ghost use lib.IntN.{pos};
 ghost use Rattle.theory.specs.Basics.{_++_, length, replicate};
-use pages::clearing;
 
 // The column of a session that is opened: the coefficient of its line, where one waits, is 1, and all others are 0.
 pub fn begin(column: &mut [i64], lines: usize)

@@ -39,7 +39,7 @@ fn turn(minus: bool, number: i64) -> i64
 }
 
 // Hook lines of a line without its coefficient become those of the line with it: words with clear sign digits, and the
-// coefficient as often as the sign says beside them.
+// coefficient beside each, its sign turned where the hook's is minus.
 fn weigh(hooks: &[u64], coefficient: i64, words: &mut [u64], weights: &mut [i64])
     requires { ⌜ (length (now hooks) ≤ length (now words)) × (length (now hooks) ≤ length (now weights))
         × (natAbs coefficient < 2 ^ 63) ⌝ }

@@ -4,7 +4,6 @@ pub mod WordDegrees
 pub mod SoundLines
 pub mod SpanTable
 pub mod Zeros
-pub mod ZerosBehind
 pub mod AllDifferent
 pub mod Chains
 pub mod Budgets

@@ -19,7 +19,7 @@ use Rattle.theory.specs.Bounds.Laws.{abs-add, abs-neg}
 abbrev pub carried : ℤ → ℤ
 carried z = toZ w64 (ofZ w64 z)
 
-room : (z : ℤ) → natAbs z < 2 ^ 63 → SFits w64 z
+pub room : (z : ℤ) → natAbs z < 2 ^ 63 → SFits w64 z
 room (pos n) l = record { sfits = l }
 room (negsuc n) l = record { sfits = omega arith }
 

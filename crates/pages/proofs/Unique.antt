@@ -1,13 +1,10 @@
 -- No second outcome meets a contract. Each theorem is of the contract itself, as Rattle reads it (`Reads.Post`).
-use mathlib.Core.Path.{_≡_, refl, sym, _∙_}
-use denote.Ref.{now}
+use mathlib.Core.Path.{_≡_, sym, _∙_}
 use Rattle.pages.proofs.lines.minus.Reads as minus
 use Rattle.pages.proofs.lines.shape.Reads as shape
 use Rattle.pages.proofs.lines.class.Reads as class
 use Rattle.pages.proofs.lines.word.Reads as word
 use Rattle.pages.proofs.pairs.common_degree.Reads as common-degree
-use Rattle.pages.proofs.clearing.words.Reads as words
-use Rattle.pages.proofs.clearing.coefficients.Reads as coefficients
 use Rattle.pages.proofs.soundness.budget.Reads as budget
 use Rattle.pages.proofs.soundness.spend.Reads as spend
 use Rattle.pages.proofs.soundness.refusal.Reads as refusal
@@ -30,15 +27,6 @@ line-word-once κs a r r′ s s′ p q = p ∙ sym q
 pub common-degree-once : (κs : _) (a : _) (r r′ : _) (s s′ : _) → common-degree.Post κs a r s
     → common-degree.Post κs a r′ s′ → r ≡ r′
 common-degree-once κs a r r′ s s′ p q = p ∙ sym q
-
--- ---- clearing
-pub words-cleared-once : (κs : _) (a : _) (r r′ : _) (s s′ : _) → words.Post κs a r s → words.Post κs a r′ s′
-    → (r ≡ r′) × (now (s .0) ≡ now (s′ .0))
-words-cleared-once κs a r r′ s s′ p q = (refl, p ∙ sym q)
-
-pub coefficients-cleared-once : (κs : _) (a : _) (r r′ : _) (s s′ : _) → coefficients.Post κs a r s
-    → coefficients.Post κs a r′ s′ → (r ≡ r′) × (now (s .0) ≡ now (s′ .0))
-coefficients-cleared-once κs a r r′ s s′ p q = (refl, p ∙ sym q)
 
 -- ---- soundness
 pub budget-once : (κs : _) (a : _) (r r′ : _) (s s′ : _) → budget.Post κs a r s → budget.Post κs a r′ s′ → r ≡ r′

@@ -19,13 +19,14 @@
 --                        lines are equal and no coefficient is 0; strip and ratio leave the coefficient out
 --   alongside page ..    the lines of a page and of the column beside it
 --   unit l               the line l with the weight 1
+--   wordsOf, weightsOf   the words of lines, their sign digits clear, and the coefficients beside them
 --   waitingIn m slip x   the lines that wait; waiting slip page, in the plain mode
 use Rattle.theory.specs.Basics.{Bool, true, _&&_, List, [], _∷_, _++_, map, length, take, drop, replicate, ℕ, _-_, _/_}
 use Rattle.theory.specs.Basics.{_%_, _^_, ℤ, pos, natAbs, _=?_, every}
 use Rattle.theory.specs.Refusals.{Check, no-6, no-21}
 use Rattle.pages.specs.Line.{Line}
 use Rattle.pages.specs.Gathering.{weighing, gather, gathered}
-use Rattle.pages.specs.Page.{lineOf, padded, Slip}
+use Rattle.pages.specs.Page.{lineOf, wordOf, padded, Slip}
 
 pub record Mode : Type 1 where
   pub number : ℕ
@@ -72,6 +73,12 @@ alongside (x ∷ page) (z ∷ column) = weighted x z ∷ alongside page column
 abbrev pub unit : Line → Line
 unit l = weighing (pos 1) l
 
+abbrev pub wordsOf : List Line → List ℕ
+wordsOf lines = map wordOf (map unit lines)
+
+abbrev pub weightsOf : List Line → List ℤ
+weightsOf lines = map (λ l. l .weight) lines
+
 abbrev pub gatheredMode : Mode
 gatheredMode = record {
   number = 1;
@@ -81,7 +88,7 @@ gatheredMode = record {
   waits = λ n x. alongside (take n (x .0)) (take n (x .1));
   idle = λ n x. every (_=? 0) (drop n (x .0)) && every (λ z. natAbs z =? 0) (drop n (x .1));
   put = λ lines x.
-      (padded (map unit lines) (x .0), map (λ l. l .weight) lines ++ replicate (length (x .1) - length lines) (pos 0));
+      (padded (map unit lines) (x .0), weightsOf lines ++ replicate (length (x .1) - length lines) (pos 0));
   stands = gathered;
   own = unit;
   join = gather;

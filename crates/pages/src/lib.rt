@@ -2,7 +2,6 @@
 // written, what a shape word and a class word have in common, and whether slip and page are sound, in either mode.
 // Every call takes every input.
 
-pub mod clearing;
 mod degrees;
 mod differences;
 pub mod gathering;

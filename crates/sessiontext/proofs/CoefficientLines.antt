@@ -24,7 +24,7 @@ use Rattle.text.specs.Reading.Bytes.{before-take, before-fits}
 use Rattle.text.specs.Reading.Lines.{Next, next}
 use Rattle.pages.specs.Line.{Line}
 use Rattle.pages.specs.Page.{wordOf, plain}
-use Rattle.pages.specs.Mode.{weighted, unit}
+use Rattle.pages.specs.Mode.{weighted, unit, wordsOf, weightsOf}
 use Rattle.sessiontext.specs.declared.numbers.IntegerRead.{IntegerRead}
 use Rattle.sessiontext.specs.declared.waiting.LineRead.{LineRead}
 use Rattle.sessiontext.specs.declared.coefficients.WeightedRead.{WeightedRead}
@@ -37,7 +37,7 @@ use Rattle.sessiontext.specs.Reading.{lineBy, lineFaultsBy}
 use Rattle.sessiontext.specs.Reading.Forms.{WaitingBy, InLimit, limit-in, is-waiting}
 use Rattle.sessiontext.specs.Reading.Exact.{shape-within, class-within, told-storable}
 use Rattle.sessiontext.specs.Private.Read.{ReadInteger, ReadLine}
-use Rattle.sessiontext.specs.Private.Weighted.{ToldWeighted, ReadWeighted, readAs, wordsOf, weightsOf, PutDown}
+use Rattle.sessiontext.specs.Private.Weighted.{ToldWeighted, ReadWeighted, readAs, PutDown}
 use Rattle.sessiontext.proofs.NumberLines.{Compared}
 use Rattle.sessiontext.proofs.WaitingLines.{both-limits, its-limits, compared}
 

@@ -17,7 +17,7 @@ use Rattle.text.specs.Text.{Text}
 use Rattle.pages.specs.declared.Slip.{Slip}
 use Rattle.pages.specs.Line.{Line}
 use Rattle.pages.specs.Page.{wordOf, padded}
-use Rattle.pages.specs.Mode.{unit, gatheredMode, waitingIn}
+use Rattle.pages.specs.Mode.{unit, wordsOf, weightsOf, gatheredMode, waitingIn}
 use Rattle.pages.specs.Sound.{soundWith, soundIn, pageChecksIn}
 use Rattle.pages.specs.Lawful.Gathered.{Roomy, gathered-lawful, lent-passes, read-put, zeros-put}
 use Rattle.sessiontext.specs.SessionText.{gatheredForm}
@@ -25,7 +25,7 @@ use Rattle.sessiontext.specs.SessionText.Faithful.Gathered.{gathered-fai
 use Rattle.sessiontext.specs.Reading.{lineBy}
 use Rattle.sessiontext.specs.Reading.Forms.{WaitingBy}
 use Rattle.sessiontext.specs.Reading.Exact.{line-written}
-use Rattle.sessiontext.specs.Private.Weighted.{readAs, wordsOf, weightsOf, PutDown}
+use Rattle.sessiontext.specs.Private.Weighted.{readAs, PutDown}
 use Rattle.sessiontext.proofs.Loading.{put-front, put-cleared}
 
 small : degreeLimit < width

@@ -3,7 +3,7 @@
 --   held z                        a signed number of 64 bits holds z
 --   signText minus                a minus, or a plus
 --   Form                          the form of a text: its mode; the lines of text in front of the six; which weights it
---                                 has room for; the text of a weight; the weight that is read off what stands before a
+--                                 can write; the text of a weight; the weight that is read off what stands before a
 --                                 waiting line's first semicolon
 --   plainForm, gatheredForm       those of the two modes
 --   valueText w shape class       the text w, shape and class, set apart by semicolons; weightedText w .., that line

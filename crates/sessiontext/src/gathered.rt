@@ -13,7 +13,7 @@ ghost use Rattle.sessiontext.specs.SessionText.{gatheredForm, sessionTex
 ghost use Rattle.sessiontext.specs.SessionText.Faithful.Gathered.{gathered-faithful};
 ghost use Rattle.sessiontext.specs.SessionText.Storable.{StorableBy};
 ghost use Rattle.sessiontext.specs.Calls.{saveBy, loadBy};
-ghost use Rattle.sessiontext.specs.Private.Weighted.{ReadFronted, Taken, readAs};
+ghost use Rattle.sessiontext.specs.Private.Weighted.{ReadFronted, AllFormed, readAs};
 use super::Loaded;
 use super::coefficients::first_fault;
 use super::coefficients::put;
@@ -24,7 +24,6 @@ use super::weighted;
 use pages::GATHERED;
 use pages::PAGE_LIMIT;
 use pages::Slip;
-use pages::clearing;
 use pages::gathering;
 use words::CountAnswer;
 
@@ -118,7 +117,7 @@ fn head(text: &[u8]) -> HeadRead
 
 // Whether a slip and the waiting lines of a text from a place on are sound; page and column are lent for these lines.
 fn sound_on(text: &[u8], start: usize, slip: Slip, page: &mut [u64], column: &mut [i64]) -> bool
-    requires { ⌜ Taken (now text) start slip ⌝ }
+    requires { ⌜ AllFormed (now text) start slip ⌝ }
     requires { ⌜ (slip .lines ≤ length (now page)) × (length (now page) ≡ length (now column)) ⌝ }
     ensures { λ r. ⌜ r ≡ soundWith gatheredMode degreeLimit slip (readAs (linesOf (drop start (now (text .entry))))) ⌝ }
 {
@@ -129,7 +128,7 @@ fn sound_on(text: &[u8], start: usize, slip: Slip, page: &mut [u64], column: &mu
 
 // The same on local arrays.
 fn sound(text: &[u8], start: usize, slip: Slip) -> bool
-    requires { ⌜ Taken (now text) start slip ⌝ }
+    requires { ⌜ AllFormed (now text) start slip ⌝ }
     ensures { λ r. ⌜ r ≡ soundWith gatheredMode degreeLimit slip (readAs (linesOf (drop start (now (text .entry))))) ⌝ }
 {
     if slip.lines <= FEW {

@@ -12,7 +12,6 @@ ghost use Rattle.sessiontext.specs.Calls.{loaded, saveInto, loadInto};
 use pages::BLANK;
 use pages::PAGE_LIMIT;
 use pages::Slip;
-use pages::clearing;
 use pages::soundness;
 use words::CountAnswer;
 

@@ -10,7 +10,7 @@ use mathlib.Core.List.{map-append}
 use lib.ListN.{length-map}
 use lib.Seq.{take-at}
 use Rattle.theory.specs.Basics.{Bool, true, false, not, cond, List, [], _∷_, _++_, length, take, ℕ, _=?_, _<?_, every}
-use Rattle.theory.specs.Basics.{map, drop, replicate, suc, _-_}
+use Rattle.theory.specs.Basics.{map, drop, replicate, suc, _-_, ℤ}
 use Rattle.theory.specs.Basics.Laws.{both, same-lists, same-self}
 use Rattle.theory.specs.Basics.Keep.{length-keep}
 use Rattle.theory.specs.Partition.{degree}
@@ -24,9 +24,10 @@ use Rattle.pages.specs.Line.{Line, lineDegree, hookLines}
 use Rattle.pages.specs.Line.Hooks.{hook-lines-few}
 use Rattle.pages.specs.declared.Slip.{Slip}
 use Rattle.pages.specs.Page.{wordOf, lineAt}
-use Rattle.pages.specs.Mode.{Mode, waitingIn, waiting}
+use Rattle.pages.specs.Mode.{Mode, waitingIn, waiting, gatheredMode}
 use Rattle.pages.specs.Lawful.{Lawful}
 use Rattle.pages.specs.Lawful.Plain.{plain-lawful}
+use Rattle.pages.specs.Lawful.Gathered.{gathered-lawful}
 use Rattle.pages.specs.Sound.Bounds.{asked-within}
 use Rattle.characters.specs.Opening.{handed, Handed}
 use Rattle.characters.specs.Step.{empty, waitingHooks, nextLinesIn, namedChecksIn, newLinesIn, previewIn}
@@ -188,6 +189,12 @@ module _ {m : Mode} (law : Lawful m) (limit : ℕ) (slip : Slip) (x : m .Lent) (
 pub limit-suffices : (limit : ℕ) (slip : Slip) (page : List ℕ) (line cycle : ℕ) (strip : List ℕ) → limit ≤ length strip
     → preview limit slip page line cycle strip .0 .refused ≡ 18 → ⊥
 limit-suffices limit slip page line cycle = suffices plain-lawful limit slip page line cycle refl
+
+pub gathered-limit-suffices : (limit : ℕ) (slip : Slip) (page : List ℕ) (column : List ℤ) (line cycle : ℕ)
+    (strip : List ℕ) → limit ≤ length strip
+    → previewIn gatheredMode limit slip (page, column) line cycle strip .0 .refused ≡ 18 → ⊥
+gathered-limit-suffices limit slip page column line cycle =
+    suffices gathered-lawful limit slip (page, column) line cycle refl
 
 -- ---- in the plain mode what was previewed is what comes: behind the other lines an accepted commit puts the front of
 -- its strip on the page

@@ -2,7 +2,7 @@
 -- settled weights are worth, and they count no more than it did.
 use mathlib.Core.Path.{_≡_, sym, _∙_, ap}
 use Prim.Native.Nat.{_≤_}
-use native.Mathlib.Nat.{le-refl, mul-le-mul, mul-one}
+use native.Mathlib.Nat.{le-refl, mul-le-mul}
 use native.Mathlib.Decide.{ℕ-discrete}
 use native.Mathlib.Omega.{arith}
 use borrow.Author.Tests.{eqb-true, eqb-false, not-true}
@@ -22,13 +22,13 @@ use Rattle.theory.specs.ClassWord.Laws.{good-class, parts-no-zero}
 use Rattle.theory.specs.Character.Order.{empty-on-empty}
 use Rattle.theory.specs.Hooks.Bounds.{step-factorial, step-S}
 use Rattle.theory.specs.Bounds.{factorial, S}
-use Rattle.theory.specs.Bounds.Laws.{factorial-positive}
 use Rattle.pages.specs.Line.{Line, lineDegree, signedCharacter, hookLines}
 use Rattle.pages.specs.Line.Hooks.{Has, HookLine, hook-lines, over-hook-lines, hook-line-class}
 use Rattle.pages.specs.Line.Hooks.{hook-rule-line}
 use Rattle.pages.specs.Line.Weights.{weightOf, sum-within, total-scaled}
 use Rattle.pages.specs.Sound.{lineValue, lineSpan}
 use Rattle.pages.specs.Sound.Laws.{SoundLine, values, spans}
+use Rattle.pages.specs.Sound.Bounds.{weight-counted}
 use Rattle.characters.specs.Step.{empty, settledHooks, waitingHooks}
 
 -- a hook line has the empty shape exactly when its degree is 0
@@ -100,11 +100,6 @@ module _ (n cycle : ℕ) (l : Line) (s : SoundLine n l) (has : Has cycle l) wher
       ∙ total-scaled size (λ y. factorial (lineDegree y)) (hookLines cycle l) in
       rw (scaled, over-hook-lines cycle l factorial)
       (mul-le-mul (le-refl size) (step-factorial cycle (l .shape) cycle-positive))
-
-  weight-counted : (y : Line) → natAbs (y .weight) ≤ lineValue y
-  weight-counted y =
-      let size : ℕ = natAbs (y .weight) in
-      omega (arith, mul-one size, mul-le-mul (le-refl size) (factorial-positive (lineDegree y)))
 
   pub strike-value : natAbs (sum weightOf (settledHooks cycle l)) + values (waitingHooks cycle l) ≤ lineValue l
   strike-value = omega (

@@ -2,12 +2,16 @@
 -- them, where some are taken out, and where one is chosen and struck out.
 --   unlike l m   l and m are not equal; Unlike l m, the same as a type
 use mathlib.Core.Path.{_≡_, refl, sym, _∙_, ap}
+use Prim.Native.Nat.{_<_}
+use native.Mathlib.Omega.{arith}
 use borrow.Author.Tests.{eq-eqb, not-true}
-use Rattle.theory.specs.Basics.{Bool, true, false, not, cond, List, [], _∷_, _++_, take, drop, ℕ, zero, suc}
+use Rattle.theory.specs.Basics.{Bool, true, false, not, cond, List, [], _∷_, _++_, length, take, drop, ℕ, zero, suc}
 use Rattle.theory.specs.Basics.{pos, _+ℤ_, keep, every}
+use Rattle.theory.specs.Basics.AtPlace.{each-at}
 use Rattle.theory.specs.Basics.Laws.{both, Each}
 use Rattle.theory.specs.Basics.Keep.{each-others, every-each, each-every, each-kept, every-kept, same-test}
 use Rattle.pages.specs.Line.{Line}
+use Rattle.pages.specs.Page.{lineOf, lineAt}
 use Rattle.pages.specs.Gathering.{alike, weighing, brought, allBrought, lasting, gather, distinct}
 use Rattle.pages.specs.Gathering.{gathered, coefficient}
 use Rattle.pages.specs.Gathering.Laws.{alike-weighing, each-brought}
@@ -81,6 +85,24 @@ different-keep test (l ∷ lines) d = go (test l) (different-keep test lines (re
     go true rest = one-more l kept
         (each-kept test (Unlike l) lines (first-unlike l lines d)) rest
     go false rest = rest
+
+-- lines at different places are unlike
+pub unlike-at : (lines : List Line) (i j : ℕ) → distinct lines ≡ true → i < length lines → j < length lines
+    → (i ≡ j → ⊥) → Unlike (lineAt lines i) (lineAt lines j)
+unlike-at [] i j d h k n = absurd (omega arith)
+unlike-at (l ∷ lines) zero zero d h k n = absurd (n refl)
+unlike-at (l ∷ lines) zero (suc j) d h k n =
+    each-at (Unlike l) lines (lineOf 0) j (first-unlike l lines d) (omega arith)
+unlike-at (l ∷ lines) (suc i) zero d h k n =
+    rw (alike-back (lineAt lines i) l)
+    (each-at (Unlike l) lines (lineOf 0) i (first-unlike l lines d) (omega arith))
+unlike-at (l ∷ lines) (suc i) (suc j) d h k n =
+    unlike-at lines i j (rest-different l lines d) (omega arith) (omega arith) (λ e. n (ap suc e))
+
+-- ---- coefficients
+-- equal lines have one coefficient
+pub coefficient-alike : (k l : Line) → alike k l ≡ true → (lines : List Line) → coefficient k lines ≡ coefficient l lines
+coefficient-alike k l e lines = ap (λ m. coefficient m lines) (alike-weighing k l e)
 
 -- what is unlike all of some lines has no coefficient in them
 pub coefficient-none : (k : Line) (lines : List Line) → Each (Unlike k) lines → coefficient k lines ≡ pos 0

@@ -1,9 +1,10 @@
 -- The two modes agree (document 02, P7): a gathered page is worth what the plain page is from which it can be gathered,
--- and every sound plain page can be gathered.
+-- and every page that plain calls take can be gathered. Below stands what the column of a gathered page says.
 --   GatheredFrom s page t x   t and x, a page and its column, have settled what the plain slip s and its page have, and
 --                             have line by line the same sums of signs
 --   gatheredSlip s n          the slip s in the gathered mode, with n lines
---   Gathered ..               what can be said of a page that is gathered: slipAfter and lentAfter, slip and lent then
+--   joint                     the lines of a plain page, gathered; slipAfter and lentAfter, slip and lent then
+--   Gathered ..               what can be said of these
 use mathlib.Core.Path.{_≡_, refl, sym, _∙_, ap, ap₂}
 use Prim.Native.Nat.{_≤_, _<_}
 use native.Mathlib.Omega.{arith}
@@ -93,10 +94,13 @@ module _ (limit : ℕ) (s : Slip) (page : List ℕ) (column : List ℤ) where
         sound-put gathered-lawful slipAfter joint (page, column) refl written limit refl fits
         (gathered-gather [] lines different-none) still-sound
 
-  -- every call takes it, it is as long as the page was, and gathered from that page
+  -- every call takes it, it is as long as the page was, gathered from that page, and of the same session
   pub record Gathered : Type 0 where
     pub passes : firstOf (pageChecksIn gatheredMode limit slipAfter lentAfter) ≡ 0
     pub same-length : length (lentAfter .0) ≡ length page
+    pub same-shape : slipAfter .shape ≡ s .shape
+    pub same-class : slipAfter .class ≡ s .class
+    pub same-steps : slipAfter .steps ≡ s .steps
     pub from : GatheredFrom s page slipAfter lentAfter
 
   -- a page that plain calls take, with a column beside it
@@ -111,6 +115,9 @@ module _ (limit : ℕ) (s : Slip) (page : List ℕ) (column : List ℤ) where
             page-passes gathered-lawful limit slipAfter lentAfter
             (gathered-lawful .lent-put joint (page, column) before room) (gathered-sound plain);
         same-length = gathered-lawful .length-put joint (page, column) room;
+        same-shape = refl;
+        same-class = refl;
+        same-steps = refl;
         from = record {
           same-settled = refl;
           same-sums =
@@ -122,8 +129,8 @@ module _ (limit : ℕ) (s : Slip) (page : List ℕ) (column : List ℤ) where
 -- beside each line of a sound page stands what all lines of its shape and class weigh
 pub column-coefficient : (limit : ℕ) (slip : Slip) (page : List ℕ) (column : List ℤ)
     → firstOf (pageChecksIn gatheredMode limit slip (page, column)) ≡ 0 → (i : ℕ) → i < slip .lines
-    → let lines = waitingIn gatheredMode slip (page, column) in
-    coefficient (lineAt lines i) lines ≡ getD column i (pos 0)
+    → let all = waitingIn gatheredMode slip (page, column) in
+    coefficient (lineAt all i) all ≡ getD column i (pos 0)
 column-coefficient limit slip page column none i there =
     let n : ℕ = slip .lines in
     let lines : List Line = waitingIn gatheredMode slip (page, column) in

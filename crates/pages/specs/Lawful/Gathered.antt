@@ -22,7 +22,7 @@ use Rattle.pages.specs.Gathering.Different.{different-none, one-more, ga
 use Rattle.pages.specs.Gathering.Different.{different-others}
 use Rattle.pages.specs.Page.{wordOf, lineAt, padded}
 use Rattle.pages.specs.Page.Padded.{length-padded, zeros-padded}
-use Rattle.pages.specs.Mode.{weighted, alongside, unit, gatheredMode}
+use Rattle.pages.specs.Mode.{weighted, alongside, unit, wordsOf, weightsOf, gatheredMode}
 use Rattle.pages.specs.Sound.Laws.{zero-all}
 use Rattle.pages.specs.Lawful.{Lawful}
 
@@ -65,9 +65,6 @@ alongside-at (x ∷ page) (z ∷ column) zero e h = refl
 alongside-at (x ∷ page) (z ∷ column) (suc i) e h = alongside-at page column i (omega arith) (omega arith)
 
 -- ---- lines that are written and read
-abbrev weights : List Line → List ℤ
-weights lines = map (λ l. l .weight) lines
-
 weighted-read : (l : Line) → Roomy l → weighted (wordOf (unit l)) (l .weight) ≡ l
 weighted-read l room =
     let shape : ((0 + l .shape) * 2 ^ 32 + l .class) / 2 ^ 32 ≡ l .shape = omega arith in
@@ -75,7 +72,7 @@ weighted-read l room =
     rw (shape, class)
 
 alongside-read : (lines : List Line) → Each Roomy lines
-    → alongside (map wordOf (map unit lines)) (weights lines) ≡ lines
+    → alongside (wordsOf lines) (weightsOf lines) ≡ lines
 alongside-read [] e = refl
 alongside-read (l ∷ lines) e = ap₂ _∷_ (weighted-read l (e .0)) (alongside-read lines (e .1))
 
@@ -90,7 +87,7 @@ module _ (lines : List Line) (page : List ℕ) (column : List ℤ) where
   abbrev after : List ℤ
   after = replicate (length column - length lines) (pos 0)
 
-  pub length-weights : length lines ≤ length column → length (weights lines ++ after) ≡ length column
+  pub length-weights : length lines ≤ length column → length (weightsOf lines ++ after) ≡ length column
   length-weights room = simp (length-append, length-replicate, length-map) (omega arith)
 
   pub length-words : length lines ≤ length page → length (padded (map unit lines) page) ≡ length page
@@ -99,8 +96,8 @@ module _ (lines : List Line) (page : List ℕ) (column : List ℤ) where
   pub read-put : Each Roomy lines → gatheredMode .waits (length lines) (gatheredMode .put lines (page, column)) ≡ lines
   read-put e =
       ap₂ alongside
-      (take-at (map wordOf (map unit lines)) _ (length lines) (length-map (map unit lines) wordOf ∙ count))
-      (take-at (weights lines) after (length lines) (length-map lines _))
+      (take-at (wordsOf lines) _ (length lines) (length-map (map unit lines) wordOf ∙ count))
+      (take-at (weightsOf lines) after (length lines) (length-map lines _))
       ∙ alongside-read lines e
 
   pub zeros-put : gatheredMode .idle (length lines) (gatheredMode .put lines (page, column)) ≡ true
@@ -111,7 +108,7 @@ module _ (lines : List Line) (page : List ℕ) (column : List ℤ) where
       ∙ zero-all (drop (length (map unit lines)) written) (zeros-padded (map unit lines) page) in
       rw (
         words,
-        drop-at (weights lines) after (length lines) (length-map lines (λ l. l .weight)),
+        drop-at (weightsOf lines) after (length lines) (length-map lines (λ l. l .weight)),
         no-weights (length column - length lines),
       )
 

@@ -1,6 +1,7 @@
--- What sound lines keep small: sums of signed characters, in whatever order they are added up.
+-- What lines keep small: weights and, of sound lines, sums of signed characters, in whatever order they are added up.
 use Prim.Native.Nat.{_≤_}
-use native.Mathlib.Nat.{le-refl, mul-le-mul}
+use native.Mathlib.Nat.{le-refl, mul-le-mul, mul-one}
+use native.Mathlib.Omega.{arith}
 use Rattle.theory.specs.Basics.{List, ℕ, natAbs, sum}
 use Rattle.theory.specs.Basics.Laws.{Each, each-same}
 use Rattle.theory.specs.Basics.Integers.Products.{abs-times}
@@ -11,11 +12,18 @@ use Rattle.theory.specs.ClassWord.Laws.{parts-no-zero}
 use Rattle.theory.specs.Character.{_on_}
 use Rattle.theory.specs.Hooks.Bounds.{word-bounded}
 use Rattle.theory.specs.Bounds.{factorial}
+use Rattle.theory.specs.Bounds.Laws.{factorial-positive}
 use Rattle.pages.specs.Page.{Slip}
 use Rattle.pages.specs.Line.{Line, lineDegree, signedCharacter}
 use Rattle.pages.specs.Line.Weights.{sum-within}
 use Rattle.pages.specs.Sound.{lineValue}
 use Rattle.pages.specs.Sound.Laws.{SoundLine, values, asked, SoundLines}
+
+-- a weight is no larger than what its line counts
+pub weight-counted : (l : Line) → natAbs (l .weight) ≤ lineValue l
+weight-counted l =
+    let size : ℕ = natAbs (l .weight) in
+    omega (arith, mul-one size, mul-le-mul (le-refl size) (factorial-positive (lineDegree l)))
 
 pub character-within : {n : ℕ} {l : Line} → SoundLine n l
     → natAbs (shapeOf (l .shape) on classOf (l .class)) ≤ factorial (lineDegree l)

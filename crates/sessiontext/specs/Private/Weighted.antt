@@ -2,11 +2,10 @@
 --   ToldWeighted t r          what stands in t of a waiting line with a coefficient, whatever its form: whether 64 bits
 --                             hold that and shape and class are in the limit, and then its word and that
 --   ReadWeighted t r          whether t is the text of a waiting line with a coefficient, and then its word and that
---   readAs ts                 the lines that the texts ts are read as; wordsOf lines, weightsOf lines, their words with
---                             clear sign digits and their weights
+--   readAs ts                 the lines that the texts ts are read as
 --   PutDown ts page column .. what the lines ts are read as stands at the front of a page and of a column
 --   frontedFaults text        the checks of the first seven lines; ReadFronted text r, what was read off them
---   Taken text start slip     the lines of the text from a place on are of their form, and as many as the slip says
+--   AllFormed text start slip the lines of the text from a place on are of their form, and as many as the slip says
 use mathlib.Core.Path.{_≡_}
 use Prim.Native.Nat.{_≤_}
 use lib.Seq.{sets}
@@ -19,7 +18,7 @@ use Rattle.text.specs.Reading.{linesOf}
 use Rattle.pages.specs.declared.Slip.{Slip}
 use Rattle.pages.specs.Line.{Line}
 use Rattle.pages.specs.Page.{wordOf}
-use Rattle.pages.specs.Mode.{unit}
+use Rattle.pages.specs.Mode.{unit, wordsOf, weightsOf}
 use Rattle.sessiontext.specs.declared.coefficients.WeightedRead.{WeightedRead}
 use Rattle.sessiontext.specs.declared.reading.HeadRead.{HeadRead}
 use Rattle.sessiontext.specs.SessionText.{held, gatheredForm}
@@ -42,17 +41,11 @@ pub record ReadWeighted (t : Text) (r : WeightedRead) : Type 0 where
 abbrev pub readAs : List Text → List Line
 readAs ts = map (lineBy gatheredForm) ts
 
-abbrev pub wordsOf : List Line → List ℕ
-wordsOf lines = map wordOf (map unit lines)
-
-abbrev pub weightsOf : List Line → List ℤ
-weightsOf lines = map (λ l. l .weight) lines
-
 pub record PutDown (ts : List Text) (page : List ℕ) (column : List ℤ) (after : List ℕ) (beside : List ℤ) : Type 0 where
   pub words : after ≡ sets page 0 (wordsOf (readAs ts))
   pub weights : beside ≡ sets column 0 (weightsOf (readAs ts))
 
-pub record Taken (text : Text) (start : ℕ) (slip : Slip) : Type 0 where
+pub record AllFormed (text : Text) (start : ℕ) (slip : Slip) : Type 0 where
   pub fits : start ≤ length text
   pub formed : Each (WaitingBy gatheredForm degreeLimit) (linesOf (drop start text))
   pub count : slip .lines ≡ length (linesOf (drop start text))

@@ -3,6 +3,7 @@
 --   Number name bound t     isNumber name bound t, as a record; Integer, InLimit, Listed and WaitingBy, so too
 --   FormedBy f limit text   faultBy f limit text ≡ 0, as a record
 --   Waiting, Formed         these by the plain form
+--   plain-at-1, gathered-at-1   a text of the one mode is at fault at line 1 by the form of the other
 use mathlib.Core.Path.{_≡_, refl, _∙_}
 use Prim.Native.Nat.{_≤_, _<_}
 use native.Mathlib.Nat.{add-suc}
@@ -16,7 +17,7 @@ use Rattle.theory.specs.Refusals.{Check, firstOf}
 use Rattle.theory.specs.Refusals.Laws.{Numbered, none-applies, both-pass, first-passes}
 use Rattle.text.specs.Text.{Text, ascii, decimal, integer, listText, textLine, field}
 use Rattle.text.specs.Reading.{numberIn, integerIn, listIn, linesOf}
-use Rattle.sessiontext.specs.SessionText.{held, Form, plainForm, weightedText}
+use Rattle.sessiontext.specs.SessionText.{held, Form, plainForm, gatheredForm, weightedText}
 use Rattle.sessiontext.specs.Reading.{inLimit, isNumber, isInteger, isList, shapeIn, classIn, frontFaults}
 use Rattle.sessiontext.specs.Reading.{weightBy, isWaitingBy, atBy, followingBy, lineFaultsBy, headFaultsBy}
 use Rattle.sessiontext.specs.Reading.{faultsBy, faultBy}
@@ -222,3 +223,42 @@ module _ (f : Form) (limit : ℕ) where
 -- ---- by the plain form
 abbrev pub Formed : ℕ → Text → Type 0
 Formed limit text = FormedBy plainForm limit text
+
+-- ---- no text is of both forms
+module _ (limit : ℕ) (text : Text) where
+  abbrev first-line : Text
+  first-line = getD (linesOf text) 0 []
+
+  abbrev mode-line : Text
+  mode-line = field "mode=" (ascii "gathered")
+
+  -- the line of the mode is no line of a degree
+  no-degree : isNumber (ascii "degree=") (2 ^ 64) mode-line ≡ false
+  unfolding isNumber
+  no-degree = never (numberIn mode-line <? 2 ^ 64)
+    where
+      never : (b : Bool) → (b && false) ≡ false
+      never true = refl
+      never false = refl
+
+  plain-fault : same first-line mode-line ≡ true → faultBy plainForm limit text ≡ 1
+  unfolding faultBy faultsBy
+  plain-fault e = rw (same-lists first-line mode-line e, no-degree) refl
+
+  gathered-fault : same first-line mode-line ≡ false → faultBy gatheredForm limit text ≡ 1
+  unfolding faultBy faultsBy
+  gathered-fault e = rw e refl
+
+  pub plain-at-1 : faultBy gatheredForm limit text ≡ 0 → faultBy plainForm limit text ≡ 1
+  plain-at-1 none = go (same first-line mode-line) refl
+    where
+      go : (b : Bool) → same first-line mode-line ≡ b → faultBy plainForm limit text ≡ 1
+      go true e = plain-fault e
+      go false e = absurd (omega (arith, none, gathered-fault e))
+
+  pub gathered-at-1 : faultBy plainForm limit text ≡ 0 → faultBy gatheredForm limit text ≡ 1
+  gathered-at-1 none = go (same first-line mode-line) refl
+    where
+      go : (b : Bool) → same first-line mode-line ≡ b → faultBy gatheredForm limit text ≡ 1
+      go true e = absurd (omega (arith, none, plain-fault e))
+      go false e = gathered-fault e

@@ -1,7 +1,7 @@
 -- A run's answers are determined by its requests (document 01, "no second outcome"), a commit's strip being part of what
 -- it asks: so to strike watches and previews alters no other answer, whichever way one looks at it.
 --   Request            a call without its answer; request call, what a call asked; requests calls, what all asked
---   answered s x r     the call that asks r of slip s and page p, with the answer that is promised
+--   answered s x r     the call that asks r of slip s and what is lent, x, with the answer that is promised
 --   answers now rs     the calls that ask rs, one after the other
 use mathlib.Core.Path.{_≡_, refl, sym, _∙_, ap, ap₂}
 use Rattle.theory.specs.Basics.{List, [], _∷_, map, ℕ}

@@ -5,7 +5,6 @@
 --   StorableLine, Storable         these by the plain form
 use mathlib.Core.Path.{_≡_}
 use Prim.Native.Nat.{_≤_, _<_}
-use native.Mathlib.Nat.{le-trans, le-refl, mul-one, mul-le-mul}
 use native.Mathlib.Omega.{arith}
 use lib.Signed.{nonNeg}
 use Rattle.theory.specs.Basics.{true, List, [], _∷_, length, ℕ, _^_, ℤ, natAbs}
@@ -13,15 +12,15 @@ use Rattle.theory.specs.Basics.Laws.{Each, each-same, each-both}
 use Rattle.theory.specs.ShapeWord.Good.{good-shape}
 use Rattle.theory.specs.ClassWord.Laws.{good-class}
 use Rattle.theory.specs.Bounds.{factorial, S}
-use Rattle.theory.specs.Bounds.Laws.{factorial-rises, factorial-positive, S-rises}
+use Rattle.theory.specs.Bounds.Laws.{factorial-rises, S-rises}
 use Rattle.theory.specs.Limits.{degreeLimit}
 use Rattle.theory.specs.Refusals.{firstOf}
 use Rattle.theory.specs.Refusals.Laws.{Within, WithinClass}
-use Rattle.pages.specs.Line.{Line, lineDegree}
+use Rattle.pages.specs.Line.{Line}
 use Rattle.pages.specs.declared.Slip.{Slip}
 use Rattle.pages.specs.Mode.{waitingIn}
-use Rattle.pages.specs.Sound.{lineValue}
 use Rattle.pages.specs.Sound.Laws.{SoundLine, SoundIn, asked, values}
+use Rattle.pages.specs.Sound.Bounds.{weight-counted}
 use Rattle.sessiontext.specs.SessionText.{held, Form}
 use Rattle.sessiontext.specs.SessionText.Faithful.{Faithful}
 use Rattle.sessiontext.specs.SessionText.Faithful.Plain.{plain-faithful}
@@ -56,9 +55,7 @@ Storable limit slip lines = StorableBy plain-faithful limit slip lines
 weights-small : (bound : ℕ) (lines : List Line) → values lines ≤ bound → Each (λ l. natAbs (l .weight) ≤ bound) lines
 weights-small bound [] h = tt
 weights-small bound (l ∷ lines) h =
-    let size : ℕ = natAbs (l .weight) in
-    let counted = mul-le-mul (le-refl size) (factorial-positive (lineDegree l)) in
-    (omega (arith, mul-one size, counted), weights-small bound lines (omega arith))
+    (omega (arith, weight-counted l), weights-small bound lines (omega arith))
 
 -- a sound session
 module _ {f : Form} (fa : Faithful f) {slip : Slip} {x : f .mode .Lent} (s : SoundIn (f .mode) degreeLimit slip x)

@@ -117,6 +117,20 @@ module _ {A : Type 0} where
     total-append [] ys = omega arith
     total-append (x ∷ xs) ys = omega (arith, total-append xs ys)
 
+-- what is kept of the images is the images of what is kept
+pub keep-map : {A B : Type 0} (test : B → Bool) (f : A → B) (xs : List A)
+    → keep test (map f xs) ≡ map f (keep (λ x. test (f x)) xs)
+keep-map test f [] = refl
+keep-map {A = A} {B = B} test f (x ∷ xs) = go (test (f x)) (keep-map test f xs)
+  where
+    kept : List A
+    kept = keep (λ y. test (f y)) xs
+
+    go : (b : Bool) → keep test (map f xs) ≡ map f kept
+        → cond b (f x ∷ keep test (map f xs)) (keep test (map f xs)) ≡ map f (cond b (x ∷ kept) kept)
+    go true rest = ap {B = List B} (λ ys. f x ∷ ys) rest
+    go false rest = rest
+
 -- ---- the first of some numbers that go up
 pub record FirstFrom (test : ℕ → Bool) (i k : ℕ) : Type 0 where
   pub from : i ≤ k

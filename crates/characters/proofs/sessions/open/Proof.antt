@@ -4,7 +4,7 @@ use Prim.Native.Nat.{ℕ, _%_, _^_}
 use native.Mathlib.Omega.{arith}
 use borrow.Author.Needs.{needs}
 use Rattle.theory.specs.Limits.{degreeLimit}
-use Rattle.pages.proofs.ZerosBehind.{cleared-whole}
+use Rattle.clearing.proofs.ZerosBehind.{cleared-whole}
 use Rattle.pages.proofs.WordPairs.{Pair, pair-refused, pair-passed}
 use Rattle.characters.proofs.Openings.{words-refuse, page-refuses, empty-opens, room-refuses, line-opens}
 use Rattle.characters.proofs.sessions.open.Statement.{statement}

@@ -3,7 +3,7 @@ use mathlib.Core.Path.{_≡_, refl}
 use native.Mathlib.Omega.{arith}
 use borrow.Author.Needs.{needs}
 use Rattle.theory.specs.Basics.{length, pos}
-use Rattle.pages.proofs.ZerosBehind.{cleared-whole}
+use Rattle.clearing.proofs.ZerosBehind.{cleared-whole}
 use Rattle.gathered.proofs.Filled.{one-line}
 use Rattle.gathered.proofs.columns.begin.Statement.{statement}
 use Rattle.gathered.proofs.columns.begin.Tie as tie

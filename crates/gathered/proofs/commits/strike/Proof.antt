@@ -1,3 +1,4 @@
+-- `gathered::commits::strike` meets its contract: what the plain commit on the line alone answers and leaves.
 use mathlib.Core.Path.{sym}
 use native.Mathlib.Omega.{arith}
 use borrow.Author.Needs.{needs}
@@ -10,8 +11,6 @@ use Rattle.gathered.proofs.Alone.{paged}
 use Rattle.gathered.proofs.Strikes.{strike-refused, fewer, left-long, size-carried, times-fits, strike-done}
 use Rattle.gathered.proofs.commits.strike.Statement.{statement}
 use Rattle.gathered.proofs.commits.strike.Tie as tie
-
--- `gathered::commits::strike` meets its contract: what the plain commit on the line alone answers and leaves.
 
 array-write-own : tie.Need-array-write-own
 array-write-own c = search needs

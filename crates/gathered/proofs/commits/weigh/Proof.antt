@@ -1,3 +1,5 @@
+-- `gathered::commits::weigh` meets its contract: what the hook lines that are left make of words and weights as they
+-- are now.
 use mathlib.Core.Path.{_≡_, refl, _∙_, ap}
 use Prim.Native.Nat.{_-_}
 use native.Mathlib.Omega.{arith}
@@ -13,9 +15,6 @@ use Rattle.gathered.specs.Private.Striking.{cleared, turned}
 use Rattle.gathered.proofs.Loops.{put-next, put-none}
 use Rattle.gathered.proofs.commits.weigh.Statement.{statement}
 use Rattle.gathered.proofs.commits.weigh.Tie as tie
-
--- `gathered::commits::weigh` meets its contract: what the hook lines that are left make of words and weights as they
--- are now.
 
 abbrev Inv-loop : tie.InvT-loop
 Inv-loop hooks coefficient words₀ weights₀ j₀ words weights j =

@@ -1,3 +1,4 @@
+-- `gathered::joining::append` meets its contract: the hook lines that are left, put from the next line on.
 use mathlib.Core.Path.{_≡_, refl, _∙_, ap}
 use Prim.Native.Nat.{_+_, _-_, _<_}
 use native.Mathlib.Omega.{arith}
@@ -12,8 +13,6 @@ use Rattle.gathered.specs.Private.Joining.{picked}
 use Rattle.gathered.proofs.Loops.{picked-not, counted-here, append-here, picked-none}
 use Rattle.gathered.proofs.joining.append.Statement.{statement}
 use Rattle.gathered.proofs.joining.append.Tie as tie
-
--- `gathered::joining::append` meets its contract: the hook lines that are left, put from the next line on.
 
 abbrev Inv-loop : tie.InvT-loop
 Inv-loop page₀ column₀ at none places words weights next₀ j₀ page column next j =

@@ -1,3 +1,4 @@
+-- `gathered::joining::find_all` meets its contract: what the words that are left make of the places as they are now.
 use mathlib.Core.Path.{_≡_, refl, _∙_}
 use Prim.Native.Nat.{_-_}
 use native.Mathlib.Omega.{arith}
@@ -9,8 +10,6 @@ use Rattle.gathered.specs.Private.Joining.{place}
 use Rattle.gathered.proofs.Loops.{put-next, put-none}
 use Rattle.gathered.proofs.joining.find_all.Statement.{statement}
 use Rattle.gathered.proofs.joining.find_all.Tie as tie
-
--- `gathered::joining::find_all` meets its contract: what the words that are left make of the places as they are now.
 
 abbrev Inv-loop : tie.InvT-loop
 Inv-loop page words places₀ j₀ places j =

@@ -1,3 +1,5 @@
+-- `gathered::joining::keep_lines` meets its contract: weights are added, the struck line becomes 0, and lines that are
+-- 0 go.
 use mathlib.Core.Path.{_≡_, sym, _∙_, ap}
 use borrow.Author.Needs.{needs}
 use lib.IntN.{pos}
@@ -8,9 +10,6 @@ use Rattle.gathered.specs.Private.Joining.{raised, stayed, putting}
 use Rattle.gathered.proofs.Joined.{length-raised, put-again, put-length}
 use Rattle.gathered.proofs.joining.keep_lines.Statement.{statement}
 use Rattle.gathered.proofs.joining.keep_lines.Tie as tie
-
--- `gathered::joining::keep_lines` meets its contract: weights are added, the struck line becomes 0, and lines that are
--- 0 go.
 
 -- ---- places: the weights are added
 abbrev begin : tie.After-raise → tie.Start

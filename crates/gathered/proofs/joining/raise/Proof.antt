@@ -1,3 +1,4 @@
+-- `gathered::joining::raise` meets its contract: what the weights that are left make of the column as it is now.
 use mathlib.Core.Path.{_≡_, refl, sym, _∙_, ap}
 use Prim.Native.Nat.{ℕ, _+_, _-_, _^_, _<_}
 use native.Mathlib.Omega.{arith}
@@ -11,8 +12,6 @@ use Rattle.gathered.specs.Private.Joining.{Small, raised}
 use Rattle.gathered.proofs.Loops.{raised-next, raised-none, raised-all, small-more}
 use Rattle.gathered.proofs.joining.raise.Statement.{statement}
 use Rattle.gathered.proofs.joining.raise.Tie as tie
-
--- `gathered::joining::raise` meets its contract: what the weights that are left make of the column as it is now.
 
 abbrev Inv-loop : tie.InvT-loop
 Inv-loop column₀ places weights j₀ column j =

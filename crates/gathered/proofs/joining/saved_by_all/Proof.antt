@@ -1,3 +1,4 @@
+-- `gathered::joining::saved_by_all` meets its contract: what is counted, and what the hook lines that are left spare.
 use mathlib.Core.Path.{_≡_, _∙_, ap}
 use Prim.Native.Nat.{_+_, _*_, _-_, _≤_}
 use native.Mathlib.Nat.{zero-add}
@@ -10,8 +11,6 @@ use Rattle.gathered.specs.Private.Joining.{savedAt, savedBy}
 use Rattle.gathered.proofs.Loops.{saved-most, saved-next, saved-all}
 use Rattle.gathered.proofs.joining.saved_by_all.Statement.{statement}
 use Rattle.gathered.proofs.joining.saved_by_all.Tie as tie
-
--- `gathered::joining::saved_by_all` meets its contract: what is counted, and what the hook lines that are left spare.
 
 abbrev Inv-loop : tie.InvT-loop
 Inv-loop column places weights all₀ j₀ all j =

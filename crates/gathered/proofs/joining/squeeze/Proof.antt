@@ -1,3 +1,4 @@
+-- `gathered::joining::squeeze` meets its contract: of the lines that were passed, those that stay are at the front.
 use mathlib.Core.Path.{_≡_, _∙_}
 use Prim.Native.Nat.{_-_, _<_}
 use native.Mathlib.Omega.{arith}
@@ -12,8 +13,6 @@ use Rattle.gathered.proofs.Squeezing.{Squeezing, squeeze-none, page-len
 use Rattle.gathered.proofs.Squeezing.{squeeze-some, squeezed}
 use Rattle.gathered.proofs.joining.squeeze.Statement.{statement}
 use Rattle.gathered.proofs.joining.squeeze.Tie as tie
-
--- `gathered::joining::squeeze` meets its contract: of the lines that were passed, those that stay are at the front.
 
 abbrev Inv-loop : tie.InvT-loop
 Inv-loop page₀ column₀ to₀ from₀ page column to from = Squeezing page₀ column₀ page column to from

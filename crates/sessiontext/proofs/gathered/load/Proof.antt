@@ -20,7 +20,7 @@ use Rattle.sessiontext.specs.SessionText.{gatheredForm}
 use Rattle.sessiontext.specs.SessionText.Faithful.Gathered.{gathered-faithful}
 use Rattle.sessiontext.specs.Reading.{lineBy, followingBy, faultBy, slipBy, linesBy}
 use Rattle.sessiontext.specs.Reading.Forms.{WaitingBy, formed}
-use Rattle.sessiontext.specs.Private.Weighted.{ReadFronted, Taken, readAs}
+use Rattle.sessiontext.specs.Private.Weighted.{ReadFronted, AllFormed, readAs}
 use Rattle.sessiontext.proofs.Loading.{head-fault, line-fault, lent-refuses, text-faulty, lines-many}
 use Rattle.sessiontext.proofs.Loading.{lines-unsound, loads}
 use Rattle.sessiontext.proofs.GatheredLoading.{put-down}
@@ -107,7 +107,7 @@ module _ (c : tie.Else5) where
   its-room : length (linesBy gatheredForm (text (begin head-read))) ≤ length (lent (begin head-read) .0)
   its-room = omega (arith, its-count head-read, room)
 
-  taken : Taken (text (begin head-read)) (read head-read .end) (read head-read .slip)
+  taken : AllFormed (text (begin head-read)) (read head-read .end) (read head-read .slip)
   taken = record {
     fits = read-head head-read .fits (none head-read);
     formed = all-formed lines-read;

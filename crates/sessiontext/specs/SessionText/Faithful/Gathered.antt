@@ -15,10 +15,6 @@ use Rattle.pages.specs.Lawful.Gathered.{gathered-lawful}
 use Rattle.sessiontext.specs.SessionText.{held, gatheredForm}
 use Rattle.sessiontext.specs.SessionText.Faithful.{Faithful}
 
-pub held-below : (z : ℤ) → held z ≡ true → natAbs z < 10 ^ 20
-held-below (pos n) h = omega (arith, ltb-true n (2 ^ 63) h)
-held-below (negsuc n) h = omega (arith, ltb-true n (2 ^ 63) h)
-
 pub held-small : (z : ℤ) → natAbs z < 2 ^ 63 → held z ≡ true
 held-small (pos n) h = lt-ltb n (2 ^ 63) h
 held-small (negsuc n) h = lt-ltb n (2 ^ 63) (omega arith)
@@ -26,6 +22,9 @@ held-small (negsuc n) h = lt-ltb n (2 ^ 63) (omega arith)
 pub held-shorter : (z : ℤ) → held z ≡ true → natAbs z < 10 ^ 19
 held-shorter (pos n) h = omega (arith, ltb-true n (2 ^ 63) h)
 held-shorter (negsuc n) h = omega (arith, ltb-true n (2 ^ 63) h)
+
+pub held-below : (z : ℤ) → held z ≡ true → natAbs z < 10 ^ 20
+held-below z h = omega (arith, held-shorter z h)
 
 pub coefficient-back : (z : ℤ) → held z ≡ true → integerIn (ascii "line=" ++ integer z) ≡ z
 coefficient-back z h =

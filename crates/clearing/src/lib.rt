@@ -1,4 +1,5 @@
-// What is lent to a session, cleared behind its lines (document 01, "Slip and page": zeros after the lines).
+// What is lent to a session, cleared behind its lines (document 01, "Slip and page": zeros after the lines): a page of
+// words, and a column of coefficients. A call takes every input.
 ghost use mathlib.Core.Path.{_≡_};
 ghost use lib.IntN.{pos};
 ghost use Rattle.theory.specs.Basics.{length, take, replicate, _++_, _-_};

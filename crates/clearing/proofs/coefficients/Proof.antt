@@ -1,14 +1,14 @@
--- `pages::clearing::coefficients` meets its contract: what is to be cleared from the present place on makes the same
+-- `clearing::coefficients` meets its contract: what is to be cleared from the present place on makes the same
 -- column.
 use mathlib.Core.Path.{_≡_, refl, sym, _∙_}
 use native.Mathlib.Omega.{arith}
 use lib.IntN.{pos}
 use lib.ListN.{length-set}
 use Rattle.theory.specs.Basics.{_++_, _-_, length, take, replicate}
-use Rattle.pages.proofs.ZerosBehind.{clears-more, cleared-all}
+use Rattle.clearing.proofs.ZerosBehind.{clears-more, cleared-all}
 use borrow.Author.Needs.{needs}
-use Rattle.pages.proofs.clearing.coefficients.Statement.{statement}
-use Rattle.pages.proofs.clearing.coefficients.Tie as tie
+use Rattle.clearing.proofs.coefficients.Statement.{statement}
+use Rattle.clearing.proofs.coefficients.Tie as tie
 
 abbrev Inv-loop : tie.InvT-loop
 Inv-loop column₀ from at₀ column at =

@@ -1,12 +1,12 @@
--- `pages::clearing::words` meets its contract: what is to be cleared from the present place on makes the same page.
+-- `clearing::words` meets its contract: what is to be cleared from the present place on makes the same page.
 use mathlib.Core.Path.{_≡_, refl, sym, _∙_}
 use native.Mathlib.Omega.{arith}
 use lib.ListN.{length-set}
 use Rattle.theory.specs.Basics.{_++_, _-_, length, take, replicate}
-use Rattle.pages.proofs.ZerosBehind.{clears-more, cleared-all}
+use Rattle.clearing.proofs.ZerosBehind.{clears-more, cleared-all}
 use borrow.Author.Needs.{needs}
-use Rattle.pages.proofs.clearing.words.Statement.{statement}
-use Rattle.pages.proofs.clearing.words.Tie as tie
+use Rattle.clearing.proofs.words.Statement.{statement}
+use Rattle.clearing.proofs.words.Tie as tie
 
 abbrev Inv-loop : tie.InvT-loop
 Inv-loop page₀ from at₀ page at =

@@ -1,0 +1,2 @@
+pub mod ZerosBehind
+pub mod Unique

@@ -59,8 +59,8 @@ pub fn add_line(sum: i64, line: u64) -> i64
 {
     evaluation::add_signed(
         sum,
-        pages::lines::minus(line),
-        evaluation::value(pages::lines::shape(line), pages::lines::class(line)),
+        linewords::minus(line),
+        evaluation::value(linewords::shape(line), linewords::class(line)),
     )
 }
 
@@ -91,8 +91,8 @@ pub fn strip(line: u64, cycle: u32, class: u32, strip: &mut [u64]) -> HookLines
     requires { ⌜ Strikes largestLimit cycle (lineOf line) class (now strip) ⌝ }
     ensures { λ r. ⌜ Outcome (stripped cycle (lineOf line) (now (strip .entry))) r (now (strip .exit)) ⌝ }
 {
-    let shape = pages::lines::shape(line);
-    let minus = pages::lines::minus(line);
+    let shape = linewords::shape(line);
+    let minus = linewords::minus(line);
     let mut marks = hooks::marks(shape, cycle);
     let mut count = 0;
     let mut settled = 0i64;
@@ -104,7 +104,7 @@ pub fn strip(line: u64, cycle: u32, class: u32, strip: &mut [u64]) -> HookLines
         if leaves == 0 {
             settled = evaluation::add_signed(settled, sign, 1);
         } else {
-            strip[count] = pages::lines::word(sign, leaves, class);
+            strip[count] = linewords::word(sign, leaves, class);
             count += 1;
         }
     }

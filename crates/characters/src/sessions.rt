@@ -86,7 +86,7 @@ pub fn open(shape: u32, class: u32, page: &mut [u64]) -> Handed
         return unopened(10);
     }
     clearing::words(page, 0);
-    page[0] = pages::lines::word(false, good, class);
+    page[0] = linewords::word(false, good, class);
     Handed {
         refused: 0,
         slip: Slip {
@@ -121,7 +121,7 @@ fn class_left(slip: Slip, page: &[u64], line: usize, cycle: u64) -> ClassLeft
             class: 0,
         };
     }
-    let left = lines::strike(pages::lines::class(page[line]), cycle);
+    let left = lines::strike(linewords::class(page[line]), cycle);
     if left.found {
         return ClassLeft {
             refused: 0,
@@ -279,7 +279,7 @@ fn ratio(line: u64) -> f64
     requires { ⌜ SoundLine degreeLimit (lineOf line) ⌝ }
     ensures { λ r. ⌜ r ≡ ratioOf (lineOf line) ⌝ }
 {
-    let degree = character_degree(pages::lines::shape(line));
+    let degree = character_degree(linewords::shape(line));
     divided(lines::add_line(0, line), degree.number)
 }
 

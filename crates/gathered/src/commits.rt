@@ -49,7 +49,7 @@ fn weigh(hooks: &[u64], coefficient: i64, words: &mut [u64], weights: &mut [i64]
     let mut j = 0;
     while j < hooks.len() {
         words[j] = hooks[j] % 0x8000_0000_0000_0000;
-        weights[j] = turn(pages::lines::minus(hooks[j]), coefficient);
+        weights[j] = turn(linewords::minus(hooks[j]), coefficient);
         j += 1;
     }
 }

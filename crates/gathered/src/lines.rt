@@ -17,7 +17,7 @@ pub fn signed_character(line: u64, coefficient: i64) -> i64
         × (lineValue (weighted line coefficient) < 2 ^ 63) ⌝ }
     ensures { λ r. ⌜ r ≡ signedCharacter (weighted line coefficient) ⌝ }
 {
-    let number = character(pages::lines::shape(line), pages::lines::class(line)).number;
+    let number = character(linewords::shape(line), linewords::class(line)).number;
     numbers::times(coefficient, number)
 }
 

@@ -17,8 +17,8 @@ pub fn alone(line: u64) -> Slip
     ensures { λ r. ⌜ r ≡ aloneOf line ⌝ }
 {
     Slip {
-        shape: pages::lines::shape(line),
-        class: pages::lines::class(line),
+        shape: linewords::shape(line),
+        class: linewords::class(line),
         settled: 0,
         lines: 1,
         steps: 0,

@@ -1,27 +1,10 @@
 -- No second outcome meets a contract. Each theorem is of the contract itself, as Rattle reads it (`Reads.Post`).
 use mathlib.Core.Path.{_≡_, sym, _∙_}
-use Rattle.pages.proofs.lines.minus.Reads as minus
-use Rattle.pages.proofs.lines.shape.Reads as shape
-use Rattle.pages.proofs.lines.class.Reads as class
-use Rattle.pages.proofs.lines.word.Reads as word
 use Rattle.pages.proofs.pairs.common_degree.Reads as common-degree
 use Rattle.pages.proofs.soundness.budget.Reads as budget
 use Rattle.pages.proofs.soundness.spend.Reads as spend
 use Rattle.pages.proofs.soundness.refusal.Reads as refusal
 use Rattle.pages.proofs.gathering.refusal.Reads as gathered-refusal
-
--- ---- lines
-pub line-minus-once : (κs : _) (a : _) (r r′ : _) (s s′ : _) → minus.Post κs a r s → minus.Post κs a r′ s′ → r ≡ r′
-line-minus-once κs a r r′ s s′ p q = p ∙ sym q
-
-pub line-shape-once : (κs : _) (a : _) (r r′ : _) (s s′ : _) → shape.Post κs a r s → shape.Post κs a r′ s′ → r ≡ r′
-line-shape-once κs a r r′ s s′ p q = p ∙ sym q
-
-pub line-class-once : (κs : _) (a : _) (r r′ : _) (s s′ : _) → class.Post κs a r s → class.Post κs a r′ s′ → r ≡ r′
-line-class-once κs a r r′ s s′ p q = p ∙ sym q
-
-pub line-word-once : (κs : _) (a : _) (r r′ : _) (s s′ : _) → word.Post κs a r s → word.Post κs a r′ s′ → r ≡ r′
-line-word-once κs a r r′ s s′ p q = p ∙ sym q
 
 -- ---- pairs
 pub common-degree-once : (κs : _) (a : _) (r r′ : _) (s s′ : _) → common-degree.Post κs a r s

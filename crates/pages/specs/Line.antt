@@ -1,5 +1,5 @@
 -- A waiting line (document 01, "Slip and page"), however it is written down.
---   Line                 its weight, a whole number; its shape word; its class word
+--   Line                 its weight, its shape word and its class word (linewords/specs/Word)
 --   lineDegree l         the degree of its shape
 --   signedCharacter l    its weight times its character
 --   hookLines cycle l    for each hook, in hook order, a line: its sign multiplied in, its class without one such cycle
@@ -9,13 +9,9 @@ use Rattle.theory.specs.ShapeWord.{shapeOf}
 use Rattle.theory.specs.ClassWord.{classWord, classOf}
 use Rattle.theory.specs.Character.{_on_}
 use Rattle.theory.specs.Hooks.{Hook, hookWords}
+pub use Rattle.linewords.specs.Word.{Line}
 pub mod Hooks
 pub mod Weights
-
-pub record Line : Type 0 where
-  pub weight : ℤ
-  pub shape : ℕ
-  pub class : ℕ
 
 abbrev pub lineDegree : Line → ℕ
 lineDegree l = degree (shapeOf (l .shape))

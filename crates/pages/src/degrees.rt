@@ -4,7 +4,6 @@ ghost use Prim.Native.Nat.{_≤_};
 ghost use Rattle.theory.specs.Limits.{degreeLimit};
 ghost use Rattle.pages.specs.Page.{lineOf};
 ghost use Rattle.pages.specs.Private.Degrees.{soundDegree, wordDegree, AllKnown, Knows};
-use super::lines;
 use words::SHAPE_WORDS;
 
 // How many places there are to remember words at: a prime number, which spreads words that end in zeros; with it
@@ -50,8 +49,8 @@ pub fn degree(line: u64, n: u32, shapes: &mut [u64], classes: &mut [u64]) -> u32
     requires { ⌜ (n ≤ degreeLimit) × Knows (now shapes) (now classes) ⌝ }
     ensures { λ r. ⌜ (r ≡ soundDegree n (lineOf line)) × Knows (now (shapes .exit)) (now (classes .exit)) ⌝ }
 {
-    let degree = word_degree(false, lines::shape(line), shapes);
-    let other = word_degree(true, lines::class(line), classes);
+    let degree = word_degree(false, linewords::shape(line), shapes);
+    let other = word_degree(true, linewords::class(line), classes);
     if n < degree {
         return 0;
     }

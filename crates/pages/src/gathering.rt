@@ -20,7 +20,6 @@ use super::degrees::MANY;
 use super::degrees::PLACES;
 use super::differences;
 use super::idle;
-use super::lines;
 use super::paying;
 use super::paying::SPANS;
 use super::soundness;
@@ -46,7 +45,7 @@ fn cost(line: u64, factorials: &[u64], shapes: &mut [u64]) -> u64
     requires { ⌜ Tabled degreeLimit factorial (now factorials) × AllKnown false (now shapes) ⌝ }
     ensures { λ r. ⌜ (r ≡ wordCost degreeLimit line) × AllKnown false (now (shapes .exit)) ⌝ }
 {
-    let degree = degrees::word_degree(false, lines::shape(line), shapes);
+    let degree = degrees::word_degree(false, linewords::shape(line), shapes);
     factorials[degree as usize]
 }
 
@@ -67,7 +66,7 @@ fn besides(
     let mut i = 0;
     while i < lines.len() {
         let line = lines[i];
-        if lines::minus(line) {
+        if linewords::minus(line) {
             return false;
         }
         let size = paying::size(coefficients[i]);

@@ -6,7 +6,6 @@ mod degrees;
 mod differences;
 pub mod gathering;
 mod idle;
-pub mod lines;
 pub mod pairs;
 mod paying;
 pub mod soundness;

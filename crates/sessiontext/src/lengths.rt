@@ -13,7 +13,6 @@ ghost use Rattle.sessiontext.specs.SessionText.{lineText};
 ghost use Rattle.sessiontext.specs.SessionText.Storable.{StorableLine};
 ghost use Rattle.sessiontext.specs.Private.Lengths.{listLength};
 ghost use Rattle.pages.specs.Page.{lineOf};
-use pages::lines;
 
 // What a waiting line has beside its lists.
 const REST: usize = 9;
@@ -57,8 +56,8 @@ fn line(line: u64) -> usize
     requires { ⌜ StorableLine degreeLimit (lineOf line) ⌝ }
     ensures { λ r. ⌜ r ≡ length (lineText (lineOf line)) ⌝ }
 {
-    let rows = shape(lines::shape(line));
-    let cycles = class(lines::class(line));
+    let rows = shape(linewords::shape(line));
+    let cycles = class(linewords::class(line));
     REST + rows + cycles
 }
 

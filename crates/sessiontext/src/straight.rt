@@ -8,7 +8,6 @@ ghost use Rattle.theory.specs.ClassWord.{classWord};
 ghost use Rattle.text.specs.Text.{ascii};
 ghost use Rattle.sessiontext.specs.SessionText.{signText};
 ghost use Rattle.sessiontext.specs.Private.Stands.{Stands, PartStands, ListStands, WordStands, LineStands};
-use pages::lines;
 
 // How many bytes stand in front of a waiting line's shape.
 const FRONT: usize = 7;
@@ -228,7 +227,7 @@ pub fn line_at(text: &[u8], at: usize) -> LineAt
     }
     LineAt {
         formed: true,
-        word: lines::word(front.minus, shape.word, class.word),
+        word: linewords::word(front.minus, shape.word, class.word),
         end: class.end,
     }
 }

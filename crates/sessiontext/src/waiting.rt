@@ -17,7 +17,6 @@ use super::straight;
 use super::straight::LineAt;
 use super::writing;
 use pages::Budget;
-use pages::lines;
 use pages::soundness;
 use text::reading;
 
@@ -66,7 +65,7 @@ pub fn word_in(line: &[u8]) -> LineRead
     let class = class_in(&line[last..], &mut cycles);
     LineRead {
         formed: both(shape.formed, class.formed),
-        word: lines::word(minus, shape.word, class.word),
+        word: linewords::word(minus, shape.word, class.word),
     }
 }
 

@@ -15,7 +15,6 @@ ghost use Rattle.sessiontext.specs.SessionText.Laws.{askedText, reachedT
 ghost use Rattle.sessiontext.specs.SessionText.Storable.{StorableLine, Forward, Storable};
 ghost use Rattle.pages.specs.Page.{lineOf};
 use pages::Slip;
-use pages::lines;
 use text::fields;
 use text::lists;
 use text::writing;
@@ -51,9 +50,9 @@ pub fn words_behind(line: u64, out: &mut [u8], at: usize) -> usize
         at (now (out .entry)) r (now (out .exit)) ⌝ }
 {
     let mut shape = [0u8; 16];
-    let rows = words::shapes::parts(lines::shape(line), &mut shape).count;
+    let rows = words::shapes::parts(linewords::shape(line), &mut shape).count;
     let mut class = [0u8; 16];
-    let cycles = words::classes::parts(lines::class(line), &mut class).count;
+    let cycles = words::classes::parts(linewords::class(line), &mut class).count;
     behind(&shape[..rows], &class[..cycles], out, at)
 }
 
@@ -63,7 +62,7 @@ pub fn line(line: u64, out: &mut [u8], at: usize) -> usize
     ensures { λ r. ⌜ Wrote (lineText (lineOf line)) at (now (out .entry)) r (now (out .exit)) ⌝ }
 {
     let end = writing::put(b"line=", out, at);
-    let end = sign(lines::minus(line), out, end);
+    let end = sign(linewords::minus(line), out, end);
     words_behind(line, out, end)
 }
 

@@ -1,8 +1,8 @@
--- `pages::lines::word` meets its contract: the sign digit counts 2^63.
+-- `linewords::word` meets its contract: the sign digit counts 2^63.
 use native.Mathlib.Omega.{arith}
 use borrow.Author.Needs.{needs}
-use Rattle.pages.proofs.lines.word.Statement.{statement}
-use Rattle.pages.proofs.lines.word.Tie as tie
+use Rattle.linewords.proofs.word.Statement.{statement}
+use Rattle.linewords.proofs.word.Tie as tie
 
 cast-plus : tie.Need-cast-plus
 cast-plus c = search needs

@@ -1,7 +1,7 @@
--- `pages::lines::class` meets its contract: the lower half of the word.
+-- `linewords::class` meets its contract: the lower half of the word.
 use borrow.Author.Needs.{needs}
-use Rattle.pages.proofs.lines.class.Statement.{statement}
-use Rattle.pages.proofs.lines.class.Tie as tie
+use Rattle.linewords.proofs.class.Statement.{statement}
+use Rattle.linewords.proofs.class.Tie as tie
 
 cast-result : tie.Need-cast-result
 cast-result c = search needs

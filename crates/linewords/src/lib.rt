@@ -1,8 +1,9 @@
-// Waiting lines (document 01, "Slip and page"): a signed shape word and a class word in one word of 64 bits.
+// A waiting line as a word (document 01, "Slip and page"): a signed shape word and a class word in one word of 64 bits.
+// Every call takes every input.
 ghost use mathlib.Core.Path.{_≡_};
 ghost use Prim.Native.Nat.{_%_, _^_};
 ghost use Rattle.theory.specs.Digits.{bit};
-ghost use Rattle.pages.specs.Page.{lineOf, wordOf, plain};
+ghost use Rattle.linewords.specs.Word.{lineOf, wordOf, plain};
 
 // Whether the sign is minus.
 pub fn minus(line: u64) -> bool

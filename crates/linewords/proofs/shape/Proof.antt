@@ -1,7 +1,7 @@
--- `pages::lines::shape` meets its contract: the 31 digits below the sign.
+-- `linewords::shape` meets its contract: the 31 digits below the sign.
 use borrow.Author.Needs.{needs}
-use Rattle.pages.proofs.lines.shape.Statement.{statement}
-use Rattle.pages.proofs.lines.shape.Tie as tie
+use Rattle.linewords.proofs.shape.Statement.{statement}
+use Rattle.linewords.proofs.shape.Tie as tie
 
 cast-result : tie.Need-cast-result
 cast-result c = search needs

@@ -35,7 +35,8 @@ rt help stdout NAME CRATE
     'elim z [ | pos n ↦ .. ]', 'r .refused', '.0', '.1', 'now (page .entry)', 'now (page .exit)', '&', '&[u8]', '&[..]',
     '&[u64]', '&mut [..]', '&mut [u64]', '&mut [i64]', '!s & (s << h)', 'suc zero', 'extern "C"', '-lzembrusha',
     'X: name', 'X.antt', 'specs/X.antt', 'specs/X/', 'proofs/F/Proof.antt', 'crate::function',
-    'In', 'By', 'mode=gathered', 'degree=', 'degree=3', 'class=', 'class=3', 'refused=12', 'refused=13', 'table 5', '0x2C000000',
+    'In', 'By', 'mode=gathered', 'degree=', 'degree=3', 'class=', 'class=3', 'refused=12', 'refused=13', 'table 5',
+    '0x2C000000',
     'N passed, 0 failed', 'old:', 'new:', 'pub mod', 'pub fn'}
 
 # Commands of rt, and the folder of what they make, which need not be there.

@@ -1,8 +1,8 @@
 /* stack.c: the stack that calls take. Each is made on a stack that is painted before it; what has lost its paint was
  * written to. What a call of nothing takes is left out, and room that is set aside and not written to is not seen.
- * Every shape is asked for on every class of degrees 0 to 16; a column of degree 16; and the calls on a gathered session
- * of more lines than are few to the library, so that its large arrays are used. Prints a line for each kind, 'ok ..' or
- * 'FAILED ..', with what was seen. */
+ * Every shape is asked for on every class of degrees 0 to 16; a column of degree 16; and the calls on a gathered
+ * session of more lines than are few to the library, so that its large arrays are used. Prints a line for each kind,
+ * 'ok ..' or 'FAILED ..', with what was seen. */
 #define _GNU_SOURCE
 
 #include <inttypes.h>
@@ -15,7 +15,8 @@
 #include "../window/zembrusha.h"
 
 enum { CHARACTER_LIMIT = 1024, COLUMN_LIMIT = 14 * 1024, GATHERED_LIMIT = 20 * 1024, LOAD_LIMIT = 88 * 1024 };
-enum { SHORT = 16 * 1024, STACK = 128 * 1024, PAINT = 0xA5, DEGREES = 17, MOST = 231, SMALL = 6, LINES = 121, CYCLE = 6 };
+enum { SHORT = 16 * 1024, STACK = 128 * 1024, PAINT = 0xA5 };
+enum { DEGREES = 17, MOST = 231, SMALL = 6, LINES = 121, CYCLE = 6 };
 
 struct partition {
     uint8_t parts[DEGREES];

@@ -13,7 +13,7 @@ ANSWERS = re.compile(rb'''refused\ [0-9]+:\ .*
     | \([0-9,]*\)\ on\ \([0-9,]*\)(,\ gathered)?:\ settled\ -?[0-9]+,\ steps\ [0-9]+\ of\ at\ most\ [0-9]+
     | line\ [0-9]+:\ ([-+]|-?[1-9][0-9]*)\ \([0-9,]+\)\ on\ \([0-9,]+\),\ strike\ .*
     | no\ line\ waits:\ the\ character\ is\ -?[0-9]+
-    | would\ come(,\ times\ -?[1-9][0-9]*)?:\ [-+]\ \([0-9,]+\)\ on\ \([0-9,]+\)(,\ to\ line\ [0-9]+)?
+    | would\ come(,\ times\ -?[1-9][0-9]*)?:\ [-+]\ \([0-9,]+\)\ on\ \([0-9,]+\)(,\ to\ line\ [0-9]+,\ which\ becomes\ -?[0-9]+(\ and\ goes)?)?
     | no\ line\ would\ come
     | would\ be\ added\ to\ settled:\ -?[0-9]+
     | sum\ of\ the\ waiting\ lines:\ -?[0-9]+
@@ -31,7 +31,11 @@ LAST_ANSWER = b'(1) on (1): settled 0, steps 0 of at most 1\nline 0: + (1) on (1
 
 # How often some answers are met at least.
 LEAST = {b'unchanged': 100, b'refused': 1000, b'\nsaved s\n': 50, b'\nloaded s\n': 50, b'\nwould be added': 20,
-         b'\ndropped 1 one from': 10, b' ones from': 10, b', gathered: settled': 100, b'\nwould come, times': 5}
+         b'\ndropped 1 one from': 10, b' ones from': 10, b', gathered: settled': 100, b'\nwould come, times': 5,
+         b', which becomes ': 1}
+
+# With these a hook is previewed that is joined to a line, and with the first two takes it out.
+SEEDS = (4, 11, 33)
 
 PARTITIONS = ['3,2', '2,2,1', '1,1,1,1,1', '4,1', '5', '0x2C000000', '0x14000000', '2,1', '1', '0x0', '6', '3,2,1']
 ONES_IN_FRONT = ['0x56000000', '0x7FFFFFEB']  # of the shape (3,2)
@@ -72,7 +76,7 @@ def answered(program, script):
 
 def main():
     program = os.path.abspath(sys.argv[1])
-    for seed in range(3):
+    for seed in SEEDS:
         dice = random.Random(seed)
         script = b'\n'.join(line(dice) for _ in range(3500))
         script = re.sub(rb'(?m)^[ \t\r]*quit[ \t\r]*$', b'', script)

@@ -4,17 +4,17 @@ use Prim.Native.Nat.{_≤_, _<_}
 use native.Mathlib.Omega.{arith}
 use borrow.Author.Tests.{lt-ltb, le-ltb, eq-eqb, ne-eqb}
 use lib.ListN.{set}
-use Rattle.theory.specs.Basics.{false, List, [], _∷_, _++_, length, replicate, ℕ, zero, suc, _-_, pos}
+use Rattle.theory.specs.Basics.{false, List, [], _∷_, length, replicate, ℕ, zero, suc, _-_, pos}
 use Rattle.theory.specs.Limits.{pageLimit}
 use Rattle.theory.specs.Partition.{degree}
 use Rattle.theory.specs.ShapeWord.{shapeOf, goodWord}
 use Rattle.theory.specs.ShapeWord.InFront.{dropped-shape}
-use Rattle.theory.specs.Refusals.{Check, firstOf, pairChecks, no-6, no-10}
-use Rattle.theory.specs.Refusals.Laws.{first-refuses, first-passes, or-refused}
+use Rattle.theory.specs.Refusals.{Check, firstOf, pairChecks, no-10}
 use Rattle.words.specs.Answers.{Outcome}
-use Rattle.pages.specs.Page.{wordOf, slipOf, blank}
-use Rattle.pages.specs.Page.{plain}
-use Rattle.characters.specs.Opening.{handed, firstLines, opening, openingIn, Handed}
+use Rattle.pages.specs.Page.{wordOf, plain, slipOf, blank}
+use Rattle.pages.specs.Mode.{plainMode}
+use Rattle.characters.specs.Opening.{handed, firstLines, openingChecks, opening, openingIn, Handed}
+use Rattle.characters.specs.Opening.Laws.{opening-refused, words-pass}
 
 set-first : (n w : ℕ) → (n ≡ 0 → ⊥) → set (replicate n 0) 0 w ≡ w ∷ replicate (n - 1) 0
 set-first zero w some = absurd (some refl)
@@ -29,32 +29,21 @@ module _ (limit s c : ℕ) (page : List ℕ) where
   same-degree : degree (shapeOf good) ≡ degree (shapeOf s)
   same-degree = ap degree (dropped-shape s)
 
-  abbrev behind : List Check
-  behind = no-6 page ∷ no-10 (firstLines good c) page ∷ []
-
   abbrev Opened : Handed → List ℕ → Type 0
   Opened r after = Outcome (opening limit s c page) r after
 
-  refused : (k : ℕ) → firstOf (pairChecks limit s c ++ behind) ≡ k → (k ≡ 0 → ⊥) → Opened (handed k blank) page
-  unfolding openingIn
-  refused k e some =
-      rw (e, or-refused {A = Handed × List ℕ} (λ k. (handed k blank, page)) _ k some)
-      (record { answers = refl; leaves = refl })
-
-  pub words-refuse : (k : ℕ) → k ≡ firstOf (pairChecks limit s c) → (k ≡ 0 → ⊥) → Opened (handed k blank) page
-  words-refuse k e some =
-      refused k (first-refuses (pairChecks limit s c) behind (λ z. some (e ∙ z)) ∙ sym e) some
+  abbrev checks : List Check
+  checks = openingChecks limit s c page
 
   module _ (none : firstOf (pairChecks limit s c) ≡ 0) where
-    words-pass : firstOf (pairChecks limit s c ++ behind) ≡ firstOf behind
-    words-pass = first-passes (pairChecks limit s c) behind refl none
-
     pub page-refuses : pageLimit < length page → Opened (handed 6 blank) page
-    page-refuses long = refused 6 (words-pass ∙ rw (lt-ltb pageLimit (length page) long)) (λ z. omega arith)
+    page-refuses long =
+        opening-refused plainMode limit s c page 6
+        (words-pass plainMode limit s c page none ∙ rw (lt-ltb pageLimit (length page) long)) (λ z. omega arith)
 
     module _ (short : length page ≤ pageLimit) where
-      page-passes : firstOf (pairChecks limit s c ++ behind) ≡ firstOf (no-10 (firstLines good c) page ∷ [])
-      page-passes = words-pass ∙ rw (le-ltb pageLimit (length page) short)
+      page-passes : firstOf checks ≡ firstOf (no-10 (firstLines good c) page ∷ [])
+      page-passes = words-pass plainMode limit s c page none ∙ rw (le-ltb pageLimit (length page) short)
 
       pub empty-opens : (w : ℕ) → w ≡ good → degree (shapeOf s) ≡ 0
           → Opened (handed 0 (slipOf w c (pos 1) 0 (pos 0) 0)) (replicate (length page) 0)
@@ -62,7 +51,7 @@ module _ (limit s c : ℕ) (page : List ℕ) where
       empty-opens w is e =
           let d = eq-eqb (degree (shapeOf good)) 0 (same-degree ∙ e) in
           let all : length page - 0 ≡ length page = omega arith in
-          let pass : firstOf (pairChecks limit s c ++ behind) ≡ 0 =
+          let pass : firstOf checks ≡ 0 =
           page-passes ∙ rw (d, le-ltb (length page) 0 (omega arith)) in
           rw (is, pass, d, all) (record { answers = refl; leaves = refl })
 
@@ -72,7 +61,7 @@ module _ (limit s c : ℕ) (page : List ℕ) where
 
         pub room-refuses : length page ≡ 0 → Opened (handed 10 blank) page
         room-refuses none =
-            refused 10
+            opening-refused plainMode limit s c page 10
             (page-passes ∙ rw (ne-eqb (degree (shapeOf good)) 0 some-good, lt-ltb (length page) 1 (omega arith)))
             (λ z. omega arith)
 
@@ -82,7 +71,7 @@ module _ (limit s c : ℕ) (page : List ℕ) where
         unfolding openingIn
         line-opens w is room =
             let d = ne-eqb (degree (shapeOf good)) 0 some-good in
-            let pass : firstOf (pairChecks limit s c ++ behind) ≡ 0 =
+            let pass : firstOf checks ≡ 0 =
             page-passes ∙ rw (d, le-ltb (length page) 1 (omega arith)) in
             rw (is, pass, d)
             (record { answers = refl; leaves = set-first (length page) (wordOf (plain false good c)) room })

@@ -4,6 +4,8 @@ ghost use mathlib.Core.Path.{_≡_};
 ghost use lib.IntN.{pos};
 ghost use Rattle.theory.specs.Basics.{length, take, replicate, _++_, _-_};
 
+pub mod idle;
+
 // Every word from a place on becomes 0.
 pub fn words(page: &mut [u64], from: usize)
     ensures { λ _. ⌜ now (page .exit)

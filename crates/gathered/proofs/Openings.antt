@@ -11,7 +11,7 @@ use Rattle.theory.specs.Limits.{pageLimit}
 use Rattle.theory.specs.Partition.{degree}
 use Rattle.theory.specs.ShapeWord.{shapeOf, goodWord}
 use Rattle.theory.specs.Refusals.{Check, firstOf, refusedOr, pairChecks, no-6, no-10}
-use Rattle.theory.specs.Refusals.Laws.{first-refuses, first-passes, or-refused, or-given, none-applies, answer-number}
+use Rattle.theory.specs.Refusals.Laws.{first-passes, or-refused, or-given, none-applies, answer-number}
 use Rattle.words.specs.Answers.{Outcome}
 use Rattle.pages.specs.Line.{Line}
 use Rattle.pages.specs.declared.Slip.{Slip}
@@ -19,6 +19,7 @@ use Rattle.pages.specs.Page.{slipOf, blank, padded}
 use Rattle.pages.specs.Mode.{unit, gatheredMode}
 use Rattle.characters.specs.declared.Handed.{Handed}
 use Rattle.characters.specs.Opening.{handed, firstLines, firstSettled, openingIn, opening}
+use Rattle.characters.specs.Opening.Laws.{opening-refused, words-pass}
 use Rattle.gathered.proofs.Filled.{first-column}
 
 abbrev pub of-mode : ℕ → Slip → Slip
@@ -67,28 +68,20 @@ module _ (limit s c : ℕ) (page : List ℕ) (column : List ℤ) where
   abbrev Opened : Handed → List ℕ → List ℤ → Type 0
   Opened r words weights = Outcome (openingIn gatheredMode limit s c (page, column)) r (words, weights)
 
-  refused : (k : ℕ) → firstOf (pairChecks limit s c ++ behind) ≡ k → (k ≡ 0 → ⊥) → Opened (handed k blank) page column
-  unfolding openingIn
-  refused k e some =
-      rw (e, or-refused {A = Handed × (List ℕ × List ℤ)} (λ k. (handed k blank, (page, column))) _ k some)
-      (record { answers = refl; leaves = refl })
-
-  pub words-refuse : (k : ℕ) → k ≡ firstOf (pairChecks limit s c) → (k ≡ 0 → ⊥) → Opened (handed k blank) page column
-  words-refuse k e some =
-      refused k (first-refuses (pairChecks limit s c) behind (λ z. some (e ∙ z)) ∙ sym e) some
-
   module _ (none : firstOf (pairChecks limit s c) ≡ 0) where
-    words-pass : firstOf (pairChecks limit s c ++ behind) ≡ firstOf behind
-    words-pass = first-passes (pairChecks limit s c) behind refl none
+    passes : firstOf (pairChecks limit s c ++ behind) ≡ firstOf behind
+    passes = words-pass gatheredMode limit s c (page, column) none
 
     pub page-refuses : pageLimit < length page → Opened (handed 6 blank) page column
-    page-refuses long = refused 6 (words-pass ∙ rw (lt-ltb pageLimit (length page) long)) (λ z. omega arith)
+    page-refuses long =
+        opening-refused gatheredMode limit s c (page, column) 6
+        (passes ∙ rw (lt-ltb pageLimit (length page) long)) (λ z. omega arith)
 
     module _ (short : length page ≤ pageLimit) where
       pub column-refuses : (length page ≡ length column → ⊥) → Opened (handed 21 blank) page column
       column-refuses unlike =
-          refused 21
-          (words-pass ∙ rw (le-ltb pageLimit (length page) short, ne-eqb (length page) (length column) unlike))
+          opening-refused gatheredMode limit s c (page, column) 21
+          (passes ∙ rw (le-ltb pageLimit (length page) short, ne-eqb (length page) (length column) unlike))
           (λ z. omega arith)
 
       module _ (same : length page ≡ length column) (r : Handed) (left : List ℕ)
@@ -96,7 +89,7 @@ module _ (limit s c : ℕ) (page : List ℕ) (column : List ℤ) where
         -- both modes have the one check that is left
         gathered-last : firstOf (pairChecks limit s c ++ behind) ≡ firstOf last
         gathered-last =
-            words-pass ∙ rw (le-ltb pageLimit (length page) short, eq-eqb (length page) (length column) same)
+            passes ∙ rw (le-ltb pageLimit (length page) short, eq-eqb (length page) (length column) same)
 
         plain-last : firstOf (pairChecks limit s c ++ no-6 page ∷ last) ≡ firstOf last
         plain-last =

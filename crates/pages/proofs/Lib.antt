@@ -3,7 +3,6 @@ pub mod WordPairs
 pub mod WordDegrees
 pub mod SoundLines
 pub mod SpanTable
-pub mod Zeros
 pub mod AllDifferent
 pub mod Chains
 pub mod Budgets

@@ -9,11 +9,10 @@ use native.Mathlib.Omega.{arith}
 use lib.Dec.{T}
 use lib.IntN.{ℤ, pos, negsuc, _+ℤ_, _-ℤ_, negℤ, natAbs, +ℤ-idl, negℤ-negℤ}
 use lib.Signed.{nonNeg, ltZ}
-use borrow.Author.Tests.{lt-ltb, le-ltb, ltb-true, ne-eqb}
+use borrow.Author.Tests.{lt-ltb, le-ltb, ltb-true}
 use mir.Facts.{toZ-ofZ}
 use mir.Syntax.{w64}
 use mir.Val.{SFits, toZ, ofZ}
-use Rattle.theory.specs.Basics.{_=?_}
 use Rattle.theory.specs.Bounds.Laws.{abs-add, abs-neg}
 
 abbrev pub carried : ℤ → ℤ
@@ -91,10 +90,3 @@ below-zero (negsuc n) s = rw (toZ-ofZ s) refl
 pub not-below-zero : (z : ℤ) → SFits w64 z → nonNeg z ≡ true → T (nonNeg (carried z)) × (natAbs (carried z) < 2 ^ 63)
 not-below-zero (pos n) s above = rw (toZ-ofZ s) (tt, s .sfits)
 not-below-zero (negsuc n) s above = absurd (false≢true above)
-
--- the test for 0, as it is made of the bits of a number
-pub zero-bits : (z : ℤ) → SFits w64 z → natAbs z =? 0 ≡ ofZ w64 z =? 0
-zero-bits (pos n) s = refl
-zero-bits (negsuc n) s =
-    ne-eqb (suc n) 0 (λ none. omega (arith, none))
-    ∙ sym (ne-eqb (2 ^ 64 - suc n) 0 (λ none. omega (arith, s .sfits, none)))

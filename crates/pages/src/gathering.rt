@@ -19,7 +19,6 @@ use super::degrees;
 use super::degrees::MANY;
 use super::degrees::PLACES;
 use super::differences;
-use super::idle;
 use super::paying;
 use super::paying::SPANS;
 use super::soundness;
@@ -122,8 +121,8 @@ fn sound(slip: Slip, page: &[u64], coefficients: &[i64]) -> bool
     let before = soundness::budget(slip);
     if afforded(before, &page[..lines], &coefficients[..lines]) {
         if differences::different(&page[..lines]) {
-            if idle::words(&page[lines..]) {
-                return idle::coefficients(&coefficients[lines..]);
+            if clearing::idle::words(&page[lines..]) {
+                return clearing::idle::coefficients(&coefficients[lines..]);
             }
         }
     }

@@ -5,7 +5,6 @@
 mod degrees;
 mod differences;
 pub mod gathering;
-mod idle;
 pub mod pairs;
 mod paying;
 pub mod soundness;

@@ -17,7 +17,6 @@ use super::Slip;
 use super::degrees;
 use super::degrees::MANY;
 use super::degrees::PLACES;
-use super::idle;
 use super::paying;
 use super::paying::SPANS;
 use words::classes::FACTORIALS;
@@ -127,7 +126,7 @@ fn sound(slip: Slip, page: &[u64]) -> bool
     let before = paying::first(slip, &factorials, &spans);
     let after = spent(before, &page[..lines], &factorials, &spans);
     if after.enough {
-        return idle::words(&page[lines..]);
+        return clearing::idle::words(&page[lines..]);
     }
     false
 }

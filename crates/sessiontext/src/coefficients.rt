@@ -1,4 +1,4 @@
-// Waiting lines with coefficients read off a text: once to judge their form, and again to put them down.
+// Waiting lines with coefficients read off a text: to judge their form, and again to put them down.
 ghost use mathlib.Core.Path.{_≡_};
 ghost use Prim.Native.Nat.{_≤_};
 ghost use Rattle.theory.specs.Basics.{length, drop};

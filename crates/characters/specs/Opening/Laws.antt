@@ -1,6 +1,7 @@
 -- An accepted opening of a shape word on a class word is sound, and worth the character that it asks for; two words of
 -- one shape are opened alike (document 02, P6).
 --   Opens m limit s c x          what it tells that no check refuses an opening
+--   behind                       the checks behind those of the words
 --   First law s c settled lines  what is true of what an opening settles and of the lines that it writes
 --   Opened law limit s c x t y   what is true of the slip t of an accepted opening, and of what it leaves, y
 use mathlib.Core.Path.{_≡_, refl, sym, _∙_, ap}
@@ -26,6 +27,8 @@ use Rattle.theory.specs.Character.Order.{empty-on-empty}
 use Rattle.theory.specs.Bounds.{factorial, S}
 use Rattle.theory.specs.Refusals.{Check, firstOf, pairChecks, no-10}
 use Rattle.theory.specs.Refusals.Laws.{or-refused, answer-number, none-applies, both-pass, Matched, matched}
+use Rattle.theory.specs.Refusals.Laws.{first-refuses, first-passes}
+use Rattle.words.specs.Answers.{Outcome}
 use Rattle.pages.specs.Line.{Line, signedCharacter}
 use Rattle.pages.specs.declared.Slip.{Slip}
 use Rattle.pages.specs.Page.{slipOf, blank, worth}
@@ -51,6 +54,26 @@ opens {m} law limit s c x e =
       lent = lent;
       room = ltb-false (length (m .page x)) (length (firstLines (goodWord s) c)) (none-applies last refl roomy .0);
     }
+
+-- ---- an opening that is refused: by any check, and by the words alone, whatever is lent
+module _ (m : Mode) (limit s c : ℕ) (x : m .Lent) where
+  abbrev behind : List Check
+  behind = m .lentChecks x ++ no-10 (firstLines (goodWord s) c) (m .page x) ∷ []
+
+  pub opening-refused : (k : ℕ) → firstOf (pairChecks limit s c ++ behind) ≡ k → (k ≡ 0 → ⊥)
+      → Outcome (openingIn m limit s c x) (handed k blank) x
+  unfolding openingIn
+  opening-refused k e some =
+      rw (e, or-refused {A = Handed × m .Lent} (λ k. (handed k blank, x)) _ k some)
+      (record { answers = refl; leaves = refl })
+
+  pub words-refuse : (k : ℕ) → k ≡ firstOf (pairChecks limit s c) → (k ≡ 0 → ⊥)
+      → Outcome (openingIn m limit s c x) (handed k blank) x
+  words-refuse k e some =
+      opening-refused k (first-refuses (pairChecks limit s c) behind (λ z. some (e ∙ z)) ∙ sym e) some
+
+  pub words-pass : firstOf (pairChecks limit s c) ≡ 0 → firstOf (pairChecks limit s c ++ behind) ≡ firstOf behind
+  words-pass none = first-passes (pairChecks limit s c) behind refl none
 
 -- ---- the first lines
 record First {m : Mode} (law : Lawful m) (s c : ℕ) (settled : ℤ) (lines : List Line) : Type 0 where

@@ -1,5 +1,5 @@
 -- No lines are lost by joining (document 02, P7). For every shape and class, what lines of it weigh after a commit of
--- the gathered mode is what they weighed before, without the struck line, plus what the hooks bring. A shape and a class
+-- the gathered mode is what they weighed before, without the struck line, plus what the hooks bring. A shape and class
 -- are named by any line k that has them; what k weighs does not matter.
 --   struck, others           the struck line, and the lines without it
 --   before, after            the lines that wait before the commit, and after it
@@ -76,7 +76,8 @@ module _ (k : Line) (lines : List Line) (i cycle : ℕ) (there : i < length line
       ∙ ap (λ z. z +ℤ new) without-struck
 
 -- no hook line that waits is equal to the line that is struck: its degree is lower
-pub unlike-waiting : {n : ℕ} (cycle : ℕ) (l : Line) → SoundLine n l → Has cycle l → Each (Unlike l) (waitingHooks cycle l)
+pub unlike-waiting : {n : ℕ} (cycle : ℕ) (l : Line) → SoundLine n l → Has cycle l
+    → Each (Unlike l) (waitingHooks cycle l)
 unlike-waiting {n} cycle l s has =
     each-same _ (Unlike l) (waitingHooks cycle l) (λ h p. go h (p .0) (alike l h) refl) (each-waiting n cycle l s has)
   where

@@ -3,7 +3,9 @@
 use borrow.Author.Needs.{needs}
 use Rattle.theory.specs.Limits.{degreeLimit}
 use Rattle.pages.proofs.WordPairs.{Pair, pair-refused, pair-passed}
-use Rattle.gathered.proofs.Openings.{words-refuse, page-refuses, column-refuses, room-refuses}
+use Rattle.pages.specs.Mode.{gatheredMode}
+use Rattle.characters.specs.Opening.Laws.{words-refuse}
+use Rattle.gathered.proofs.Openings.{page-refuses, column-refuses, room-refuses}
 use Rattle.gathered.proofs.Openings.{column-begins, line-opens}
 use Rattle.gathered.proofs.open.Statement.{statement}
 use Rattle.gathered.proofs.open.Tie as tie
@@ -18,7 +20,7 @@ returns : tie.Need-returns
 returns c =
     let j = c .before .before .before in
     rw (c .unopened .ensures)
-    (words-refuse _ _ _ _ _ _ (pair-refused _ _ _ _ (j .common-degree .ensures)) (c .before .if1 .taken))
+    (words-refuse gatheredMode _ _ _ (_, _) _ (pair-refused _ _ _ _ (j .common-degree .ensures)) (c .before .if1 .taken))
 
 pair : (c : tie.Else1)
     → let j = c .before .before in

@@ -101,7 +101,8 @@ unlike-at (l ∷ lines) (suc i) (suc j) d h k n =
 
 -- ---- coefficients
 -- equal lines have one coefficient
-pub coefficient-alike : (k l : Line) → alike k l ≡ true → (lines : List Line) → coefficient k lines ≡ coefficient l lines
+pub coefficient-alike : (k l : Line) → alike k l ≡ true → (lines : List Line)
+    → coefficient k lines ≡ coefficient l lines
 coefficient-alike k l e lines = ap (λ m. coefficient m lines) (alike-weighing k l e)
 
 -- what is unlike all of some lines has no coefficient in them

@@ -58,7 +58,8 @@ module _ (f : Form) where
 
   -- ---- calls one after the other
   run-calculated : (now : Standing (f .mode .Lent)) (calls : List (Call (f .mode .Lent)))
-      (end : Standing (f .mode .Lent)) → Run f now calls end → calculator.Run f degreeLimit now (allTheirs f now calls) end
+      (end : Standing (f .mode .Lent)) → Run f now calls end
+      → calculator.Run f degreeLimit now (allTheirs f now calls) end
   unfolding Run allTheirs calculator.Run
   run-calculated now [] end r = r
   run-calculated now (call ∷ calls) end r = (
@@ -96,5 +97,6 @@ module _ {shape class : ℕ} {page : List ℕ} {column : List ℤ} {calls : List
   gathered-session =
       let c = session-calculated gathered-faithful s in (
         c,
-        gathered-demand-3 shape class page column (allTheirs gatheredForm (first gatheredForm s) calls) end (c .session),
+        gathered-demand-3 shape class page column (allTheirs gatheredForm (first gatheredForm s) calls) end
+            (c .session),
       )

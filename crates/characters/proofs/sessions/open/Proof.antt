@@ -6,7 +6,9 @@ use borrow.Author.Needs.{needs}
 use Rattle.theory.specs.Limits.{degreeLimit}
 use Rattle.clearing.proofs.ZerosBehind.{cleared-whole}
 use Rattle.pages.proofs.WordPairs.{Pair, pair-refused, pair-passed}
-use Rattle.characters.proofs.Openings.{words-refuse, page-refuses, empty-opens, room-refuses, line-opens}
+use Rattle.pages.specs.Mode.{plainMode}
+use Rattle.characters.specs.Opening.Laws.{words-refuse}
+use Rattle.characters.proofs.Openings.{page-refuses, empty-opens, room-refuses, line-opens}
 use Rattle.characters.proofs.sessions.open.Statement.{statement}
 use Rattle.characters.proofs.sessions.open.Tie as tie
 
@@ -20,7 +22,7 @@ returns : tie.Need-returns
 returns c =
     let j = c .before .before .before in
     rw (c .unopened .ensures)
-    (words-refuse _ _ _ _ _ (pair-refused _ _ _ _ (j .common-degree .ensures)) (c .before .if1 .taken))
+    (words-refuse plainMode _ _ _ _ _ (pair-refused _ _ _ _ (j .common-degree .ensures)) (c .before .if1 .taken))
 
 pair : (c : tie.Else1)
     → let j = c .before .before in

@@ -12,7 +12,7 @@ use Rattle.pages.specs.Private.Differences.{allDifferent}
 use Rattle.pages.specs.Private.Gathered.{afforded}
 use Rattle.pages.proofs.SoundPages.{other-mode, lines-long}
 use Rattle.pages.proofs.GatheredPages.{as-many, areAfforded, not-afforded, two-equal, not-idle, then-column}
-use Rattle.pages.proofs.Zeros.{all-from}
+use Rattle.clearing.proofs.Zeros.{all-from}
 use Rattle.pages.proofs.gathering.sound.Statement.{statement}
 use Rattle.pages.proofs.gathering.sound.Tie as tie
 

@@ -8,7 +8,7 @@ use Rattle.pages.specs.Mode.{plainMode, waiting}
 use Rattle.pages.specs.Budget.{budgetOf, spentAll, Budget}
 use Rattle.pages.proofs.SpanTable.{factorials-table, spans-tabled}
 use Rattle.pages.proofs.SoundPages.{other-mode, lines-long, lines-dear, then-zeros}
-use Rattle.pages.proofs.Zeros.{all-from}
+use Rattle.clearing.proofs.Zeros.{all-from}
 use Rattle.pages.proofs.soundness.sound.Statement.{statement}
 use Rattle.pages.proofs.soundness.sound.Tie as tie
 

@@ -1,4 +1,4 @@
--- `pages::idle::coefficients` meets its contract: all coefficients are 0 where those left are.
+-- `clearing::idle::coefficients` meets its contract: all coefficients are 0 where those left are.
 use mathlib.Core.Path.{_≡_, refl, sym, _∙_}
 use Prim.Native.Nat.{_+_, _-_, _≤_, _<_}
 use native.Mathlib.Omega.{arith}
@@ -8,10 +8,9 @@ use mir.Val.{SFits, ofZ}
 use borrow.Author.Needs.{needs}
 use borrow.Author.Tests.{eq-eqb, ne-eqb}
 use Rattle.theory.specs.Basics.{Bool, false, List, length, getD, drop, ℕ, ℤ, _=?_, every}
-use Rattle.pages.proofs.Signed.{zero-bits}
-use Rattle.pages.proofs.Zeros.{one-fails, one-passes, last-one, none-left}
-use Rattle.pages.proofs.idle.coefficients.Statement.{statement}
-use Rattle.pages.proofs.idle.coefficients.Tie as tie
+use Rattle.clearing.proofs.Zeros.{one-fails, one-passes, last-one, none-left, zero-bits}
+use Rattle.clearing.proofs.idle.coefficients.Statement.{statement}
+use Rattle.clearing.proofs.idle.coefficients.Tie as tie
 
 abbrev isZero : ℤ → Bool
 isZero z = natAbs z =? 0

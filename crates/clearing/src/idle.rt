@@ -1,4 +1,4 @@
-// Whether all is 0 behind the lines.
+// Whether all is 0 behind the lines (document 01, "every word after the lines is 0"; document 02, P7, of coefficients).
 ghost use mathlib.Core.Path.{_≡_};
 ghost use lib.IntN.{natAbs};
 ghost use Rattle.theory.specs.Basics.{_=?_, every};

@@ -1,12 +1,12 @@
--- `pages::idle::words` meets its contract: all words are 0 where those left are.
+-- `clearing::idle::words` meets its contract: all words are 0 where those left are.
 use mathlib.Core.Path.{_≡_, refl, sym, _∙_}
 use Prim.Native.Nat.{_+_, _-_, _≤_}
 use native.Mathlib.Omega.{arith}
 use borrow.Author.Needs.{needs}
 use Rattle.theory.specs.Basics.{length, drop, _=?_, every}
-use Rattle.pages.proofs.Zeros.{not-zero, zero-next, last-word, no-word-left}
-use Rattle.pages.proofs.idle.words.Statement.{statement}
-use Rattle.pages.proofs.idle.words.Tie as tie
+use Rattle.clearing.proofs.Zeros.{not-zero, zero-next, last-word, no-word-left}
+use Rattle.clearing.proofs.idle.words.Statement.{statement}
+use Rattle.clearing.proofs.idle.words.Tie as tie
 
 abbrev Inv-loop : tie.InvT-loop
 Inv-loop words i₀ i = (i ≤ length words) × (every (_=? 0) (drop i words) ≡ every (_=? 0) words)

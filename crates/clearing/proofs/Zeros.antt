@@ -1,5 +1,5 @@
 -- A loop over elements that are to pass a test, as words and coefficients are that are to be 0.
-use mathlib.Core.Path.{_≡_, sym}
+use mathlib.Core.Path.{_≡_, refl, sym, _∙_}
 use mathlib.Core.Bool.{and-true}
 use Prim.Native.Nat.{_≤_, _<_}
 use native.Mathlib.Numerals.{add-one}
@@ -7,7 +7,10 @@ use native.Mathlib.Omega.{arith}
 use borrow.Author.Tests.{eq-eqb, ne-eqb}
 use lib.ListN.{drop-of-length-le, length-drop}
 use lib.Seq.{drop-cons, take-all}
-use Rattle.theory.specs.Basics.{Bool, true, false, List, length, getD, take, drop, ℕ, suc, _+_, _-_, _=?_, every}
+use mir.Syntax.{w64}
+use mir.Val.{SFits, ofZ}
+use Rattle.theory.specs.Basics.{Bool, true, false, List, length, getD, take, drop, ℕ, suc, _+_, _-_, _^_, ℤ, pos, negsuc}
+use Rattle.theory.specs.Basics.{natAbs, _=?_, every}
 
 module _ {A : Type 0} (test : A → Bool) (none : A) (xs : List A) (i : ℕ) where
   pub one-fails : i < length xs → test (getD xs i none) ≡ false → every test (drop i xs) ≡ false
@@ -41,3 +44,10 @@ module _ (xs : List ℕ) (i : ℕ) where
 -- what lies from k on, as a call has it
 pub all-from : {A : Type 0} (xs : List A) (k : ℕ) → take (length xs - k) (drop k xs) ≡ drop k xs
 all-from xs k = take-all (length xs - k) (drop k xs) (omega (arith, length-drop k xs))
+
+-- the test for 0, as it is made of the bits of a number
+pub zero-bits : (z : ℤ) → SFits w64 z → natAbs z =? 0 ≡ ofZ w64 z =? 0
+zero-bits (pos n) s = refl
+zero-bits (negsuc n) s =
+    ne-eqb (suc n) 0 (λ none. omega (arith, none))
+    ∙ sym (ne-eqb (2 ^ 64 - suc n) 0 (λ none. omega (arith, s .sfits, none)))

@@ -1086,7 +1086,7 @@ CONSTRUCTORS = {
     'mathlib.Core.Path': ['_≡_', 'refl'],
 }
 LIBRARY = ['div', 'ofInt']  # definitions of lib.Ieee that have to be unfolded
-PASSED_OVER = ['Lib.antt', 'Private.antt', 'Examples.antt', 'Run.antt']
+PASSED_OVER = ['Lib.antt', 'Private.antt', 'Examples.antt']
 HIDDEN = [  # asked by no notion, and named as something else is
     ('text', 'step'), ('pages', 'left')]
 OWN = """

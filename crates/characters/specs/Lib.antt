@@ -3,5 +3,4 @@ pub mod Calls
 pub mod Opening
 pub mod Step
 pub mod Watch
-pub mod Examples
 pub mod Private

@@ -2,6 +2,5 @@
 pub mod SessionText
 pub mod Reading
 pub mod Calls
-pub mod Run
 pub mod Examples
 pub mod Private

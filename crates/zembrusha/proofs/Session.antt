@@ -6,7 +6,7 @@ use mathlib.Core.Path.{_≡_}
 use denote.Ref.{now}
 use Rattle.theory.specs.Basics.{List, [], _∷_, ℕ, ℤ}
 use Rattle.sessiontext.specs.SessionText.{Form, plainForm, gatheredForm}
-use Rattle.sessiontext.specs.Run.{Saves, countsAt, Standing, standing, after, begun}
+use Rattle.sessionruns.specs.Run.{Saves, countsAt, Standing, standing, after, begun}
 use Rattle.zembrusha.specs.declared.Slip.{Slip}
 use Rattle.zembrusha.specs.Exports.{given}
 use Rattle.zembrusha.specs.Session.{Call, opened, previewed, committed, watched-whole, watched-ratio}

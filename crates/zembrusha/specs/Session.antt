@@ -27,8 +27,8 @@ use Rattle.characters.specs.Watch.Answers.{said}
 use Rattle.sessiontext.specs.declared.Loaded as calculator-loaded
 use Rattle.sessiontext.specs.SessionText.{Form}
 use Rattle.sessiontext.specs.Calls.{saveBy, loadBy}
-use Rattle.sessiontext.specs.Run as calculator
-use Rattle.sessiontext.specs.Run.{Standing, Belongs, after, begun}
+use Rattle.sessionruns.specs.Run as calculator
+use Rattle.sessionruns.specs.Run.{Standing, Belongs, after, begun}
 use Rattle.zembrusha.specs.declared.Number.{Number}
 use Rattle.zembrusha.specs.declared.Handed.{Handed}
 use Rattle.zembrusha.specs.declared.Loaded.{Loaded}

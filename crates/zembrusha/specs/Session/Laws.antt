@@ -14,10 +14,10 @@ use Rattle.sessiontext.specs.SessionText.{Form, plainForm, gatheredForm}
 use Rattle.sessiontext.specs.SessionText.Faithful.{Faithful}
 use Rattle.sessiontext.specs.SessionText.Faithful.Plain.{plain-faithful}
 use Rattle.sessiontext.specs.SessionText.Faithful.Gathered.{gathered-faithful}
-use Rattle.sessiontext.specs.Run as calculator
-use Rattle.sessiontext.specs.Run.{Standing, after}
-use Rattle.sessiontext.specs.Run.Demand3.{Demand3, demand-3}
-use Rattle.sessiontext.specs.Run.Modes.{GatheredDemand3, gathered-demand-3}
+use Rattle.sessionruns.specs.Run as calculator
+use Rattle.sessionruns.specs.Run.{Standing, after}
+use Rattle.sessionruns.specs.Run.Demand3.{Demand3, demand-3}
+use Rattle.sessionruns.specs.Run.Modes.{GatheredDemand3, gathered-demand-3}
 use Rattle.zembrusha.specs.declared.Handed.{Handed}
 use Rattle.zembrusha.specs.Exports.{handedRun}
 use Rattle.zembrusha.specs.Session.{Call, opened, previewed, committed, watched-whole, watched-ratio}

@@ -18,10 +18,11 @@ use Rattle.pages.specs.Sound.Laws.{SoundIn}
 use Rattle.pages.specs.Lawful.{Lawful}
 use Rattle.characters.specs.Step.{nextLinesIn, nextSlipIn, commitChecksIn, finishedIn, commitIn}
 use Rattle.characters.specs.Step.Laws.{accepted, next-sound-in, next-waits, next-worth-in}
+use Rattle.sessiontext.specs.declared.Loaded.{Loaded}
 use Rattle.sessiontext.specs.SessionText.{Form}
 use Rattle.sessiontext.specs.SessionText.Faithful.{Faithful}
-use Rattle.sessiontext.specs.Calls.{Loaded, loadBy}
+use Rattle.sessiontext.specs.Calls.{loadBy}
 use Rattle.sessiontext.specs.Calls.Laws.{loaded-text}
 
 pub record Leads (m : Mode) (limit : ℕ) (s : Slip) (x : m .Lent) (k : ℕ) (t : Slip) (y : m .Lent) : Type 0 where
   pub soundness : SoundIn m limit t y

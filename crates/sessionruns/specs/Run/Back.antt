@@ -15,13 +15,14 @@ use Rattle.text.specs.Text.{Text}
 use Rattle.pages.specs.declared.Slip.{Slip}
 use Rattle.pages.specs.Line.{Line}
 use Rattle.pages.specs.Mode.{Mode, waitingIn}
+use Rattle.sessiontext.specs.declared.Loaded.{Loaded}
 use Rattle.sessiontext.specs.SessionText.{Form}
 use Rattle.sessiontext.specs.SessionText.Faithful.{Faithful}
-use Rattle.sessiontext.specs.Calls.{Loaded, loaded as loadedAs, saveBy, loadBy}
-use Rattle.sessiontext.specs.Run.{Call, saved, loaded, countsAt, Standing, standing, Belongs, after, Run}
-use Rattle.sessiontext.specs.Run.Parts.{Known, run-knows}
-use Rattle.sessiontext.specs.Run.Leads.{Leads}
-use Rattle.sessiontext.specs.Run.Kept.{Stored, Stands, save-stored, stored-loads, call-stands, run-stands}
+use Rattle.sessiontext.specs.Calls.{loaded as loadedAs, saveBy, loadBy}
+use Rattle.sessionruns.specs.Run.{Call, saved, loaded, countsAt, Standing, standing, Belongs, after, Run}
+use Rattle.sessionruns.specs.Run.Parts.{Known, run-knows}
+use Rattle.sessionruns.specs.Run.Leads.{Leads}
+use Rattle.sessionruns.specs.Run.Kept.{Stored, Stands, save-stored, stored-loads, call-stands, run-stands}
 
 pub record PutBack {L : Type 0} (then now : Standing L) (text : Text) (a : Loaded) (y : L) : Type 0 where
   pub accepted : a .refused ≡ 0

@@ -19,13 +19,14 @@ use Rattle.pages.specs.Page.{worth}
 use Rattle.pages.specs.Mode.{Mode, waitingIn}
 use Rattle.pages.specs.Lawful.Put.{waiting-put, sound-put}
 use Rattle.characters.specs.Opening.Laws.{refused-opening}
+use Rattle.sessiontext.specs.declared.Loaded.{Loaded}
 use Rattle.sessiontext.specs.SessionText.{Form, sessionTextBy}
 use Rattle.sessiontext.specs.SessionText.Faithful.{Faithful}
-use Rattle.sessiontext.specs.Calls.{Loaded, loaded as loadedAs, saveBy, loadBy}
+use Rattle.sessiontext.specs.Calls.{loaded as loadedAs, saveBy, loadBy}
 use Rattle.sessiontext.specs.Calls.Laws.{saved-text, saved-loads, refused-load}
-use Rattle.sessiontext.specs.Run.{Call, opened, previewed, committed, watched, saved, loaded, Saves, countsAt, Standing}
-use Rattle.sessiontext.specs.Run.{Promised, Belongs, after, Run}
-use Rattle.sessiontext.specs.Run.Leads.{Leads, and-then, commit-leads}
+use Rattle.sessionruns.specs.Run.{Call, opened, previewed, committed, watched, saved, loaded, Saves, countsAt}
+use Rattle.sessionruns.specs.Run.{Standing, Promised, Belongs, after, Run}
+use Rattle.sessionruns.specs.Run.Leads.{Leads, and-then, commit-leads}
 
 module _ {f : Form} (fa : Faithful f) (s : Slip) (x : f .mode .Lent) where
   abbrev m : Mode

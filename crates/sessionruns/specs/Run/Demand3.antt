@@ -25,14 +25,15 @@ use Rattle.characters.specs.Opening.Laws.{Opened, opening-opened}
 use Rattle.pages.specs.Line.{Line, signedCharacter}
 use Rattle.pages.specs.Page.{worth}
 use Rattle.pages.specs.Mode.{waitingIn}
+use Rattle.sessiontext.specs.declared.Loaded.{Loaded}
 use Rattle.sessiontext.specs.SessionText.{Form}
 use Rattle.sessiontext.specs.SessionText.Faithful.{Faithful}
-use Rattle.sessiontext.specs.Calls.{Loaded, loadBy}
-use Rattle.sessiontext.specs.Run.{Call, saved, Standing, begun, Run, Session, unwatched}
-use Rattle.sessiontext.specs.Run.Parts.{run-splits, one-end, one-begun, session-unwatched}
-use Rattle.sessiontext.specs.Run.Leads.{stays}
-use Rattle.sessiontext.specs.Run.Kept.{Stands, run-stands}
-use Rattle.sessiontext.specs.Run.Back.{PutBack, steps-counted, put-back}
+use Rattle.sessiontext.specs.Calls.{loadBy}
+use Rattle.sessionruns.specs.Run.{Call, saved, Standing, begun, Run, Session, unwatched}
+use Rattle.sessionruns.specs.Run.Parts.{run-splits, one-end, one-begun, session-unwatched}
+use Rattle.sessionruns.specs.Run.Leads.{stays}
+use Rattle.sessionruns.specs.Run.Kept.{Stands, run-stands}
+use Rattle.sessionruns.specs.Run.Back.{PutBack, steps-counted, put-back}
 
 -- the sum over no line
 no-sum : (lines : List Line) → length lines ≡ 0 → sum signedCharacter lines ≡ pos 0

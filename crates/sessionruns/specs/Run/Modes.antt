@@ -9,11 +9,11 @@ use Rattle.theory.specs.Limits.{degreeLimit}
 use Rattle.pages.specs.Page.{worth}
 use Rattle.pages.specs.Mode.{waitingIn, plainMode, gatheredMode}
 use Rattle.pages.specs.Lawful.Gathered.{as-long}
 use Rattle.sessiontext.specs.SessionText.{plainForm, gatheredForm}
 use Rattle.sessiontext.specs.SessionText.Faithful.Plain.{plain-faithful}
 use Rattle.sessiontext.specs.SessionText.Faithful.Gathered.{gathered-faithful}
-use Rattle.sessiontext.specs.Run.{Call, Standing, Session}
-use Rattle.sessiontext.specs.Run.Demand3.{Demand3, demand-3, session-opened}
+use Rattle.sessionruns.specs.Run.{Call, Standing, Session}
+use Rattle.sessionruns.specs.Run.Demand3.{Demand3, demand-3, session-opened}
 
 module _ (shape class : ℕ) (page : List ℕ) (calls : List (Call (List ℕ))) (end : Standing (List ℕ)) where
   abbrev pub PlainDemand3 : Type 0

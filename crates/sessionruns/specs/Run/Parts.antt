@@ -8,9 +8,9 @@ use Rattle.theory.specs.Basics.{true, false, not, cond, List, [], _∷_, _++_, 
 use Rattle.words.specs.Answers.Laws.{one-outcome}
 use Rattle.text.specs.Text.{Text}
 use Rattle.characters.specs.Opening.{openingIn}
 use Rattle.sessiontext.specs.SessionText.{Form}
-use Rattle.sessiontext.specs.Run.{Call, opened, previewed, committed, watched, saved, loaded, Saves, countsAt, Standing}
-use Rattle.sessiontext.specs.Run.{after, begun, Run, Session, isWatch, unwatched}
+use Rattle.sessionruns.specs.Run.{Call, opened, previewed, committed, watched, saved, loaded, Saves, countsAt}
+use Rattle.sessionruns.specs.Run.{Standing, after, begun, Run, Session, isWatch, unwatched}
 
 module _ (f : Form) (limit : ℕ) where
   abbrev L : Type 0

@@ -3,11 +3,11 @@
 --   Halfway ..   where a session stands between two of its calls: so far it is a session, of which demand 3 is true
 use Rattle.theory.specs.Basics.{List, _++_, ℕ}
 use Rattle.theory.specs.Limits.{degreeLimit}
 use Rattle.sessiontext.specs.SessionText.{Form}
 use Rattle.sessiontext.specs.SessionText.Faithful.{Faithful}
-use Rattle.sessiontext.specs.Run.{Call, Standing, begun, Run, Session}
-use Rattle.sessiontext.specs.Run.Parts.{run-splits}
-use Rattle.sessiontext.specs.Run.Demand3.{Demand3, demand-3}
+use Rattle.sessionruns.specs.Run.{Call, Standing, begun, Run, Session}
+use Rattle.sessionruns.specs.Run.Parts.{run-splits}
+use Rattle.sessionruns.specs.Run.Demand3.{Demand3, demand-3}
 
 module _ {f : Form} (fa : Faithful f) (shape class : ℕ) (x : f .mode .Lent) (before later : List (Call (f .mode .Lent)))
     (end : Standing (f .mode .Lent)) where

@@ -7,9 +7,9 @@ use Rattle.theory.specs.Bounds.{factorial, S}
 use Rattle.words.specs.Calls.{goodShapeWord}
 use Rattle.pages.specs.Line.{hookLines}
 use Rattle.pages.specs.Sound.{soundLine, soundLines, soundIn}
 use Rattle.characters.specs.Opening.{openingIn}
 use Rattle.characters.specs.Step.{nextLinesIn, nextSlipIn, previewIn, commitIn}
-use Rattle.characters.specs.Examples.{Examples}
+use Rattle.examples.specs.Examples.{Examples}
 
 pub examples : Examples
 unfolding character digits word goodShapeWord hooks hookWords hookLines factorial S soundLine soundLines soundIn

@@ -7,8 +7,9 @@ use native.Mathlib.Omega.{arith}
 use borrow.Author.Tests.{not-true}
 use Rattle.theory.specs.Basics.{Bool, true, false, not, cond, List, [], _∷_, length, ℕ, _+_, _=?_, keep, count, every}
 use Rattle.theory.specs.Basics.Laws.{both}
 use Rattle.sessiontext.specs.SessionText.{Form}
-use Rattle.sessiontext.specs.Run.{Call, opened, previewed, committed, watched, saved, loaded, Standing, after, Run}
+use Rattle.sessionruns.specs.Run.{Call, opened, previewed, committed, watched, saved, loaded}
+use Rattle.sessionruns.specs.Run.{Standing, after, Run}
 
 abbrev pub isStep : {L : Type 0} → Call L → Bool
 isStep (opened shape class a y) = false

@@ -18,17 +18,18 @@ use Rattle.pages.specs.declared.Slip.{Slip}
 use Rattle.pages.specs.Line.{Line}
 use Rattle.pages.specs.Page.{worth}
 use Rattle.pages.specs.Mode.{Mode, waitingIn}
+use Rattle.sessiontext.specs.declared.Loaded.{Loaded}
 use Rattle.sessiontext.specs.SessionText.{Form, sessionTextBy}
 use Rattle.sessiontext.specs.SessionText.Faithful.{Faithful}
 use Rattle.sessiontext.specs.SessionText.Storable.{sound-storable}
 use Rattle.sessiontext.specs.Reading.{slipBy, linesBy}
 use Rattle.sessiontext.specs.Reading.Back.{slip-back, lines-back}
-use Rattle.sessiontext.specs.Calls.{Loaded, saveBy, loadBy}
+use Rattle.sessiontext.specs.Calls.{saveBy, loadBy}
 use Rattle.sessiontext.specs.Calls.Laws.{Taken, saved-text, loaded-text}
-use Rattle.sessiontext.specs.Run.{Call, Standing, begun, Run, Session}
-use Rattle.sessiontext.specs.Run.Leads.{Leads, stays}
-use Rattle.sessiontext.specs.Run.Kept.{run-stands}
-use Rattle.sessiontext.specs.Run.Demand3.{Demand3, demand-3}
+use Rattle.sessionruns.specs.Run.{Call, Standing, begun, Run, Session}
+use Rattle.sessionruns.specs.Run.Leads.{Leads, stays}
+use Rattle.sessionruns.specs.Run.Kept.{run-stands}
+use Rattle.sessionruns.specs.Run.Demand3.{Demand3, demand-3}
 
 small : degreeLimit < width
 small = omega arith

@@ -28,8 +28,9 @@ use Rattle.characters.specs.declared.Watched.{Watched}
 use Rattle.characters.specs.Opening.{openingIn}
 use Rattle.characters.specs.Step.{previewIn, commitIn}
 use Rattle.characters.specs.Watch.{reads, watchIn}
+use Rattle.sessiontext.specs.declared.Loaded.{Loaded}
 use Rattle.sessiontext.specs.SessionText.{Form}
-use Rattle.sessiontext.specs.Calls.{Loaded, saveBy, loadBy}
+use Rattle.sessiontext.specs.Calls.{saveBy, loadBy}
 pub mod Parts
 pub mod Leads
 pub mod Kept

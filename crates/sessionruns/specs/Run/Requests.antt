@@ -11,11 +11,11 @@ use Rattle.characters.specs.Opening.{openingIn}
 use Rattle.characters.specs.Step.{previewIn, commitIn}
 use Rattle.characters.specs.Watch.{watchIn}
 use Rattle.characters.specs.Watch.Answers.{said, said-reads}
 use Rattle.sessiontext.specs.SessionText.{Form}
 use Rattle.sessiontext.specs.Calls.{saveBy, loadBy}
-use Rattle.sessiontext.specs.Run.{Call, opened, previewed, committed, watched, saved, loaded, Standing, Promised, after}
-use Rattle.sessiontext.specs.Run.{begun, Run, Session, unwatched}
-use Rattle.sessiontext.specs.Run.Parts.{one-end, one-begun, session-unwatched}
+use Rattle.sessionruns.specs.Run.{Call, opened, previewed, committed, watched, saved, loaded, Standing, Promised}
+use Rattle.sessionruns.specs.Run.{after, begun, Run, Session, unwatched}
+use Rattle.sessionruns.specs.Run.Parts.{one-end, one-begun, session-unwatched}
 
 pub data Request : Type 0 where
   to-open : (shape class : ℕ) → Request

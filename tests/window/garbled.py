@@ -13,7 +13,8 @@ ANSWERS = re.compile(rb'''refused\ [0-9]+:\ .*
     | \([0-9,]*\)\ on\ \([0-9,]*\)(,\ gathered)?:\ settled\ -?[0-9]+,\ steps\ [0-9]+\ of\ at\ most\ [0-9]+
     | line\ [0-9]+:\ ([-+]|-?[1-9][0-9]*)\ \([0-9,]+\)\ on\ \([0-9,]+\),\ strike\ .*
     | no\ line\ waits:\ the\ character\ is\ -?[0-9]+
-    | would\ come(,\ times\ -?[1-9][0-9]*)?:\ [-+]\ \([0-9,]+\)\ on\ \([0-9,]+\)(,\ to\ line\ [0-9]+,\ which\ becomes\ -?[0-9]+(\ and\ goes)?)?
+    | would\ come(,\ times\ -?[1-9][0-9]*)?:\ [-+]\ \([0-9,]+\)\ on\ \([0-9,]+\)
+      (,\ to\ line\ [0-9]+,\ which\ becomes\ -?[0-9]+(\ and\ goes)?)?
     | no\ line\ would\ come
     | would\ be\ added\ to\ settled:\ -?[0-9]+
     | sum\ of\ the\ waiting\ lines:\ -?[0-9]+

@@ -9,8 +9,8 @@ use lib.ListN.{drop-of-length-le, length-drop}
 use lib.Seq.{drop-cons, take-all}
 use mir.Syntax.{w64}
 use mir.Val.{SFits, ofZ}
-use Rattle.theory.specs.Basics.{Bool, true, false, List, length, getD, take, drop, ℕ, suc, _+_, _-_, _^_, ℤ, pos, negsuc}
-use Rattle.theory.specs.Basics.{natAbs, _=?_, every}
+use Rattle.theory.specs.Basics.{Bool, true, false, List, length, getD, take, drop, ℕ, suc, _+_, _-_, _^_, ℤ, pos}
+use Rattle.theory.specs.Basics.{negsuc, natAbs, _=?_, every}
 
 module _ {A : Type 0} (test : A → Bool) (none : A) (xs : List A) (i : ℕ) where
   pub one-fails : i < length xs → test (getD xs i none) ≡ false → every test (drop i xs) ≡ false

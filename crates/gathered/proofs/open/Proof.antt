@@ -20,7 +20,8 @@ returns : tie.Need-returns
 returns c =
     let j = c .before .before .before in
     rw (c .unopened .ensures)
-    (words-refuse gatheredMode _ _ _ (_, _) _ (pair-refused _ _ _ _ (j .common-degree .ensures)) (c .before .if1 .taken))
+    (words-refuse gatheredMode _ _ _ (_, _) _ (pair-refused _ _ _ _ (j .common-degree .ensures))
+    (c .before .if1 .taken))
 
 pair : (c : tie.Else1)
     → let j = c .before .before in

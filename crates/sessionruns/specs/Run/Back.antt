@@ -1,6 +1,6 @@
 -- A text that was saved in a run puts the run back at that save, if it is loaded later on in it: it is the text of that
 -- slip and what was lent, so that this is what the load gives, and the steps that it gives are those that counted then.
---   PutBack ..   a load of the text, made at `now` and answered a with y left, is accepted, belongs to the run, and puts
+--   PutBack ..   a load of the text, made at `now` and answered a with y left, is accepted, belongs to the run and puts
 --                it back at `then`: slip, what is lent and count are those of then, and what was saved stays saved
 use mathlib.Core.Path.{_≡_, sym, _∙_, ap}
 use mathlib.Core.List.{cons-ne-nil}

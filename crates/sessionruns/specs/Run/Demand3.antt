@@ -96,8 +96,8 @@ module _ {f : Form} (fa : Faithful f) (shape class : ℕ) (x : f .mode .Lent) (c
         o .laid
         ∙ fa .law .put-alike (waitingIn (f .mode) (s .answer .slip) (s .lent)) x (s .lent) (o .was-lent) (o .lent)
         (sym (o .same-length)) in
-        put-back fa (s .answer .slip) (s .lent) (o .lent) (o .unstepped) laid then (stands before then so-far) out left a
-        (r .0) none later end (r .2)
+        put-back fa (s .answer .slip) (s .lent) (o .lent) (o .unstepped) laid then (stands before then so-far) out left
+        a (r .0) none later end (r .2)
 
   pub demand-3 : Session f degreeLimit shape class x calls end → Demand3
   unfolding worth

@@ -2,7 +2,7 @@
 -- page and its column, which stays as long as the page. And that two sessions of one shape and class agree, one in each
 -- mode, whatever was called in either.
 --   PlainDemand3, GatheredDemand3   demand 3 of a session in the plain mode, and in the gathered one
---   SessionsAgree                   both are worth the same, and once no line waits in either both have settled the same
+--   SessionsAgree                   both are worth the same, and once no line waits in either have settled the same
 use mathlib.Core.Path.{_≡_, sym, _∙_}
 use Rattle.theory.specs.Basics.{List, length, ℕ, ℤ}
 use Rattle.theory.specs.Limits.{degreeLimit}

@@ -1,8 +1,8 @@
 #!/usr/bin/env python3
 """values.py: reckons values by a model of its own, and has the checker compute the definitions and compare.
 
-The definitions are those of the specs of `theory`, `words`, `listing`, `pages`, `characters` and `sessiontext`. The
-model, which shares nothing with them, is model.py, gathering.py for the gathered mode, and texts.py for the text of a
+The definitions are those of the specs of `theory`, `words`, `listing`, `linewords`, `pages`, `characters` and
+`sessiontext`. The model, which shares nothing with them, is model.py, gathering.py for the gathered mode, and texts.py for the text of a
 session. Each equation is a list of expressions over the definitions and the list of their values, proved by computation
 alone (`refl`).
 
@@ -45,7 +45,7 @@ from model import (  # noqa: E402
 from texts import (  # noqa: E402
     LEAST, MOST, by_hand, bytes_of, damaged, gathered_by_hand, loaded, put_away, saved, taken_up)
 
-CRATES = ['theory', 'text', 'words', 'listing', 'pages', 'characters', 'sessiontext']
+CRATES = ['theory', 'text', 'words', 'listing', 'linewords', 'pages', 'characters', 'sessiontext']
 NO_SPECS = ['clearing']  # what some of them rest on, and that defines nothing
 LIBRARIES = ['check', 'io']  # what some of them rest on
 

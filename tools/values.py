@@ -2,9 +2,9 @@
 """values.py: reckons values by a model of its own, and has the checker compute the definitions and compare.
 
 The definitions are those of the specs of `theory`, `words`, `listing`, `linewords`, `pages`, `characters` and
-`sessiontext`. The model, which shares nothing with them, is model.py, gathering.py for the gathered mode, and texts.py for the text of a
-session. Each equation is a list of expressions over the definitions and the list of their values, proved by computation
-alone (`refl`).
+`sessiontext`. The model, which shares nothing with them, is model.py, gathering.py for the gathered mode, and texts.py
+for the text of a session. Each equation is a list of expressions over the definitions and the list of their values,
+proved by computation alone (`refl`).
 
 A copy of the crates is made in a temporary folder, with crates beside them that have the equations, and `rt` proves
 these; what the repository has proved already is not proved again. Then some values of each notion are changed at

@@ -9,7 +9,8 @@ The pages are README.md and docs/*.md; docs/changes/*.md are history, which name
   each call but an export has two or more, or an exception with a reason.
 - Every edit, and every theorem of a Unique.antt, is named: an edit on PROMISES or READING, a theorem on PROMISES.
 - Every definition file is named on READING, every crate has a row on ARCHITECTURE, row k of the refusals names no-k,
-  and the tables that tools/pages.py writes are what it writes. No edit changes a file of proofs/.
+  and the tables that tools/pages.py writes are what it writes. No edit changes a file of proofs/, and what an edit
+  changes stands in its file once.
 - Decisions are numbered, each number once, and a number that is cited is there; a line of text has at most 120
   characters.
 It tells that a name is there, not that it says what the page claims. Last it tries itself: a page that is changed in
@@ -235,6 +236,21 @@ def wrong_converse(texts):
             yield '%s: %s is not listed' % (READING, file)
 
 
+def not_once(edit, text):
+    """The old texts of an edit that do not stand in its file just once, one pair being applied after the other."""
+    files, name, old = {}, '', ''
+    for line in text.splitlines():
+        if line.startswith('file: '):
+            name = 'crates/%s/%s' % (edit.split('/')[1], line[6:])
+        elif line.startswith('old: '):
+            old = line[5:]
+        elif line.startswith('new:'):
+            now = files.get(name) or tree.read(name)
+            if now.count(old) != 1:
+                yield old
+            files[name] = now.replace(old, line[5:])
+
+
 def wrong_rows(texts):
     """Refusals in READING, each in its row; crates that a page leaves out; an edit that changes a proof, or is not as
     CONTRIBUTING shows it."""
@@ -250,6 +266,8 @@ def wrong_rows(texts):
         for changed in re.findall(r'^file: (.*)', text, re.M):
             if not changed.startswith(('src/', 'specs/')):
                 yield '%s changes %s' % (file, changed)
+        for old in not_once(file, text):
+            yield '%s: not once in its file: %s' % (file, old)
     shown = re.search(r'`(crates/\S+\.edit)`:\n\n```text\n(.*?)```', texts['docs/CONTRIBUTING.md'], re.S)
     if not shown or edits.get(shown[1]) != shown[2]:
         yield 'docs/CONTRIBUTING.md: the edit that it shows is not so'

@@ -10,6 +10,7 @@ pub mod ClassData
 pub mod Character
 pub mod Rules
 pub mod Hooks
+pub mod Frobenius
 pub mod Listing
 pub mod Column
 pub mod Refusals

@@ -5,6 +5,7 @@ use native.Mathlib.Omega.{arith}
 use lib.IntN.{+ℤ-assoc, +ℤ-comm, +ℤ-idr, negℤ-+ℤ, negℤ-negℤ, pos-ne-negsuc, -ℤ-+ℤ-cancel, +ℤ-negℤ-cancel}
 use Rattle.theory.specs.Basics.{ℕ, zero, suc, _+_, ℤ, pos, negsuc, _+ℤ_, _-ℤ_, negℤ}
 pub mod Products
+pub mod Ring
 
 pub swap-front : (a b c : ℤ) → a +ℤ (b +ℤ c) ≡ b +ℤ (a +ℤ c)
 swap-front a b c = sym (+ℤ-assoc a b c) ∙ ap (λ x. x +ℤ c) (+ℤ-comm a b) ∙ +ℤ-assoc b a c
@@ -35,6 +36,11 @@ more-one a n = +ℤ-assoc a (pos 1) (pos n) ∙ ap (λ k. a +ℤ pos k) (omega a
 
 pub less-one : (a : ℤ) (n : ℕ) → a -ℤ pos 1 +ℤ pos (suc n) ≡ a +ℤ pos n
 less-one a n = sym (more-one (a -ℤ pos 1) n) ∙ ap (λ x. x +ℤ pos n) (-ℤ-+ℤ-cancel a (pos 1))
+
+pub one-back : (n : ℕ) → pos (suc n) -ℤ pos 1 ≡ pos n
+one-back n =
+    let e : suc n ≡ n + 1 = omega arith in
+    rw e (+ℤ-negℤ-cancel (pos n) (pos 1))
 
 pub difference-one-more : (x y : ℤ) → (x +ℤ pos 1) -ℤ (y +ℤ pos 1) ≡ x -ℤ y
 difference-one-more x y =

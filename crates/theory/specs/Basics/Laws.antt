@@ -3,7 +3,7 @@ use mathlib.Core.Path.{_≡_, refl, sym, _∙_, ap, ap₂}
 use mathlib.Core.Bool.{false≢true}
 use mathlib.Core.List.{append-assoc, append-nil, List·Memᴰ, List·Memᴰ·head, List·Memᴰ·tail}
 use Prim.Native.Nat.{_≤_, _<_}
-use native.Mathlib.Nat.{add-zero, add-suc, suc-add}
+use native.Mathlib.Nat.{add-zero, add-suc, suc-add, mul-assoc}
 use native.Mathlib.Omega.{arith}
 use lib.Dec.{eqb}
 use borrow.Author.Tests.{eqb-true, eq-eqb}
@@ -11,7 +11,7 @@ use lib.ListN.{length-append}
 use lib.IntN.{+ℤ-idl, +ℤ-assoc}
 use Rattle.theory.specs.Basics.{Bool, true, false, not, cond, _&&_, List, [], _∷_, _++_, map, length, getD, take}
 use Rattle.theory.specs.Basics.{ℕ, zero, suc, _+_, _*_, _%_, ℤ, _+ℤ_, _=?_, odd, same, keep, count}
-use Rattle.theory.specs.Basics.{joined, total, sum, upFrom}
+use Rattle.theory.specs.Basics.{joined, total, product, sum, upFrom}
 pub use Rattle.theory.specs.Basics.{Each}
 
 -- ---- tests
@@ -97,6 +97,11 @@ module _ {A : Type 0} where
   pub sum-append : (f : A → ℤ) (xs ys : List A) → sum f (xs ++ ys) ≡ sum f xs +ℤ sum f ys
   sum-append f [] ys = sym (+ℤ-idl (sum f ys))
   sum-append f (x ∷ xs) ys = ap (λ z. f x +ℤ z) (sum-append f xs ys) ∙ sym (+ℤ-assoc (f x) (sum f xs) (sum f ys))
+
+-- ---- products
+pub product-append : (ms ns : List ℕ) → product (ms ++ ns) ≡ product ms * product ns
+product-append [] ns = omega arith
+product-append (m ∷ ms) ns = rw (product-append ms ns) (sym (mul-assoc m (product ms) (product ns)))
 
 -- a sign put before a sum
 module _ {A B : Type 0} where

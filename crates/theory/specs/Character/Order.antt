@@ -39,16 +39,16 @@ counts-same c k l t r =
     comes-counted c k (character-counted c k) l t r
     ∙ sym (comes-counted c k (character-counted c k) l (sorted l) (follows l))
 
+pub positive-first : {ps : Parts} → NoZero ps → PositiveFirst (map pos ps)
+positive-first none = tt
+positive-first (some {p = p} k) = (p, refl)
+
 pub any-order : (s c d : Parts) → isPartition s ≡ true → NoZero c → NoZero d → ((m : ℕ) → times m c ≡ times m d)
     → s on c ≡ s on d
 any-order s c d e kc kd same =
-    character-counted c kc (map pos s) (positive (no-zero s e))
+    character-counted c kc (map pos s) (positive-first (no-zero s e))
     ∙ ap (λ f. f (betas (map pos s))) (counted-order c d same)
-    ∙ sym (character-counted d kd (map pos s) (positive (no-zero s e)))
-  where
-    positive : {ps : Parts} → NoZero ps → PositiveFirst (map pos ps)
-    positive none = tt
-    positive (some {p = p} k) = (p, refl)
+    ∙ sym (character-counted d kd (map pos s) (positive-first (no-zero s e)))
 
 -- ---- empty shape on empty class is 1, and no other partitions have the degree 0
 pub empty-on-empty : (s c : Parts) → isPartition s ≡ true → isPartition c ≡ true → degree s ≡ 0 → degree c ≡ 0

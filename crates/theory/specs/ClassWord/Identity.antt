@@ -6,7 +6,7 @@ use native.Mathlib.Omega.{arith}
 use lib.Pow.{high-ones}
 use Rattle.theory.specs.Basics.{true, ℕ, zero, suc, _+_, _-_, _*_, _%_, _^_, replicate}
 use Rattle.theory.specs.Partition.{first, isPartition, degree}
-use Rattle.theory.specs.Partition.Laws.{in-front}
+use Rattle.theory.specs.Partition.Laws.{NoZero, none, some, in-front}
 use Rattle.theory.specs.Digits.{word, width}
 use Rattle.theory.specs.Digits.Laws.{word-below, word-none}
 use Rattle.theory.specs.ClassWord.{classDigits, classWord}
@@ -15,6 +15,10 @@ use Rattle.theory.specs.ClassWord.Laws.{Held}
 pub ones-degree : (n : ℕ) → degree (replicate n 1) ≡ n
 ones-degree zero = refl
 ones-degree (suc n) = omega (arith, ones-degree n)
+
+pub ones-no-zero : (n : ℕ) → NoZero (replicate n 1)
+ones-no-zero zero = none
+ones-no-zero (suc n) = some (ones-no-zero n)
 
 ones-partition : (n : ℕ) → isPartition (replicate n 1) ≡ true
 ones-partition zero = refl

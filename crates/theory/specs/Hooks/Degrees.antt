@@ -10,11 +10,11 @@ use Rattle.theory.specs.Basics.{false, true, List, [], _∷_, replicate,
 use Rattle.theory.specs.Basics.{ℤ, pos, _+ℤ_, natAbs}
 use Rattle.theory.specs.Basics.Laws.{Each, each-append, each-map, each-same, each-both}
 use Rattle.theory.specs.Partition.{degree}
-use Rattle.theory.specs.Partition.Laws.{NoZero, none, some, no-degree}
+use Rattle.theory.specs.Partition.Laws.{no-degree}
 use Rattle.theory.specs.Digits.{Digits, digits, width}
 use Rattle.theory.specs.ShapeWord.{rows, pairs, shapeOf, shifted}
 use Rattle.theory.specs.ShapeWord.Laws.{rows-partition, degree-pairs}
-use Rattle.theory.specs.ClassWord.Identity.{ones-degree}
+use Rattle.theory.specs.ClassWord.Identity.{ones-degree, ones-no-zero}
 use Rattle.theory.specs.Character.{character, _on_, characterDegree}
 use Rattle.theory.specs.Hooks.{Hook, hooks}
 use Rattle.theory.specs.Hooks.Walk.{led, hookOver, hooks-none, hooks-one, hooks-zero}
@@ -68,17 +68,13 @@ corner (false ∷ false ∷ ds) h =
     rw (hooks-zero 0 (false ∷ ds), length-map (hooks 1 (false ∷ ds)) (led false)) (corner (false ∷ ds) (omega arith))
 
 -- ---- characters on (1^n)
-all-ones : (n : ℕ) → NoZero (replicate n 1)
-all-ones zero = none
-all-ones (suc n) = some (all-ones n)
-
 AllPositive : ℕ → Type 0
 AllPositive n = (ds : Digits) → degree (rows ds) ≡ n → Positive (rows ds on replicate n 1)
 
 positive-next : (n : ℕ) → AllPositive n → AllPositive (suc n)
 unfolding AllPositive Plus
 positive-next n below ds e =
-    rw (hook-rule 1 (replicate (suc n) 1) (all-ones (suc n)) (λ z. omega arith) ds)
+    rw (hook-rule 1 (replicate (suc n) 1) (ones-no-zero (suc n)) (λ z. omega arith) ds)
     (positive-sum _ (hooks 1 ds) (corner ds (omega (arith, degree-pairs ds)))
     (each-same _ _ (hooks 1 ds) term-positive (each-both (Exchange 1 ds) Plus (hooks 1 ds) (exchanges 1 ds) (plus ds))))
   where
@@ -99,4 +95,4 @@ degree-positive w = all-positive (degree (shapeOf w)) (digits width w) refl
 pub degree-bounded : (w : ℕ) → natAbs (characterDegree (shapeOf w)) ≤ factorial (degree (shapeOf w))
 degree-bounded w =
     let n : ℕ = degree (shapeOf w) in
-    rw (ones-degree n) at (word-bounded w (replicate n 1) (all-ones n) (sym (ones-degree n)))
+    rw (ones-degree n) at (word-bounded w (replicate n 1) (ones-no-zero n) (sym (ones-degree n)))

@@ -27,7 +27,7 @@ sum-times (pos (suc n)) b c = sum-times-suc (pos n) b c (sum-times (pos n) b c)
 sum-times (negsuc zero) b c = sum-times-pred (pos 0) b c (sum-times-zero b c)
 sum-times (negsuc (suc n)) b c = sum-times-pred (negsuc n) b c (sum-times (negsuc n) b c)
 
-times-sum : (a b c : ℤ) → a *ℤ (b +ℤ c) ≡ a *ℤ b +ℤ a *ℤ c
+pub times-sum : (a b c : ℤ) → a *ℤ (b +ℤ c) ≡ a *ℤ b +ℤ a *ℤ c
 times-sum a b c = *ℤ-comm a (b +ℤ c) ∙ sum-times b c a ∙ ap₂ _+ℤ_ (*ℤ-comm b a) (*ℤ-comm c a)
 
 pub times-sums : {A : Type 0} (a : ℤ) (f : A → ℤ) (xs : List A) → a *ℤ sum f xs ≡ sum (λ x. a *ℤ f x) xs
@@ -35,7 +35,7 @@ times-sums a f [] = *ℤ-zero a
 times-sums a f (x ∷ xs) = times-sum a (f x) (sum f xs) ∙ ap (λ z. a *ℤ f x +ℤ z) (times-sums a f xs)
 
 -- ---- signs
-neg-times : (a c : ℤ) → negℤ a *ℤ c ≡ negℤ (a *ℤ c)
+pub neg-times : (a c : ℤ) → negℤ a *ℤ c ≡ negℤ (a *ℤ c)
 neg-times a c =
     let none : negℤ a *ℤ c +ℤ a *ℤ c ≡ pos 0 =
     sym (sum-times (negℤ a) a c) ∙ ap (λ x. x *ℤ c) (+ℤ-invl a) ∙ zero-*ℤ c in
@@ -50,6 +50,27 @@ times-signed false a b = refl
 pub times-one : (a : ℤ) → a *ℤ pos 1 ≡ a
 times-one (pos n) = ap pos (mul-one n)
 times-one (negsuc n) = ap (λ (k : ℕ). negℤ (pos k)) (mul-one (suc n))
+
+pub one-times : (a : ℤ) → pos 1 *ℤ a ≡ a
+one-times a = *ℤ-comm (pos 1) a ∙ times-one a
+
+-- ---- three factors
+times-assoc-next : (a b c : ℤ) → a *ℤ b *ℤ c ≡ a *ℤ (b *ℤ c) → sucℤ a *ℤ b *ℤ c ≡ sucℤ a *ℤ (b *ℤ c)
+times-assoc-next a b c h =
+    ap (λ x. x *ℤ c) (sucℤ-*ℤ a b) ∙ sum-times (a *ℤ b) b c ∙ ap (λ x. x +ℤ b *ℤ c) h ∙ sym (sucℤ-*ℤ a (b *ℤ c))
+
+times-assoc-from-zero : (n : ℕ) (b c : ℤ) → pos n *ℤ b *ℤ c ≡ pos n *ℤ (b *ℤ c)
+times-assoc-from-zero zero b c = ap (λ x. x *ℤ c) (zero-*ℤ b) ∙ zero-*ℤ c ∙ sym (zero-*ℤ (b *ℤ c))
+times-assoc-from-zero (suc n) b c = times-assoc-next (pos n) b c (times-assoc-from-zero n b c)
+
+pub times-assoc : (a b c : ℤ) → a *ℤ b *ℤ c ≡ a *ℤ (b *ℤ c)
+times-assoc (pos n) b c = times-assoc-from-zero n b c
+times-assoc (negsuc n) b c =
+    ap (λ x. x *ℤ c) (neg-times (pos (suc n)) b) ∙ neg-times (pos (suc n) *ℤ b) c
+    ∙ ap negℤ (times-assoc-from-zero (suc n) b c) ∙ sym (neg-times (pos (suc n)) (b *ℤ c))
+
+pub times-swap : (a b c : ℤ) → a *ℤ (b *ℤ c) ≡ b *ℤ (a *ℤ c)
+times-swap a b c = sym (times-assoc a b c) ∙ ap (λ x. x *ℤ c) (*ℤ-comm a b) ∙ times-assoc b a c
 
 -- ---- sizes
 abs-opposite : (n : ℕ) → natAbs (negℤ (pos n)) ≡ n

@@ -16,6 +16,8 @@ pub mod Rule
 pub mod Evaluation
 pub mod Bounds
 pub mod Degrees
+pub mod Flipped
+pub mod Associates
 pub mod Marks
 
 pub record Hook (A : Type 0) : Type 0 where

@@ -1,9 +1,12 @@
 -- The whole numbers as a group: the laws, beside those of lib.IntN, that characters use.
 --   sums, signed-sums   sets for simp: sums are bracketed to the right and sorted; signs go inwards
 use mathlib.Core.Path.{_≡_, refl, sym, _∙_, ap}
+use native.Mathlib.Nat.{add-zero, add-suc}
 use native.Mathlib.Omega.{arith}
 use lib.IntN.{+ℤ-assoc, +ℤ-comm, +ℤ-idr, negℤ-+ℤ, negℤ-negℤ, pos-ne-negsuc, -ℤ-+ℤ-cancel, +ℤ-negℤ-cancel}
-use Rattle.theory.specs.Basics.{ℕ, zero, suc, _+_, ℤ, pos, negsuc, _+ℤ_, _-ℤ_, negℤ}
+use Rattle.theory.specs.Basics.{Bool, true, false, not, ℕ, zero, suc, _+_, ℤ, pos, negsuc, _+ℤ_, _-ℤ_, negℤ}
+use Rattle.theory.specs.Basics.{odd, signed}
+use Rattle.theory.specs.Basics.Laws.{odd-suc}
 pub mod Products
 pub mod Ring
 
@@ -18,6 +21,30 @@ pub ruleset sums = (+ℤ-assoc, +ℤ-comm, swap-front)
 pub ruleset signed-sums = (sums, negℤ-+ℤ, negℤ-negℤ)
 
 -- ---- signs
+pub signed-not : (minus : Bool) (z : ℤ) → signed (not minus) z ≡ negℤ (signed minus z)
+signed-not true z = sym (negℤ-negℤ z)
+signed-not false z = refl
+
+pub signed-zero : (minus : Bool) → signed minus (pos 0) ≡ pos 0
+signed-zero true = refl
+signed-zero false = refl
+
+pub signed-sum : (minus : Bool) (a b : ℤ) → signed minus (a +ℤ b) ≡ signed minus a +ℤ signed minus b
+signed-sum true a b = negℤ-+ℤ a b
+signed-sum false a b = refl
+
+-- turned m + n times and then n times, it is turned m times
+pub signed-back : (m n : ℕ) (z : ℤ) → signed (odd (m + n)) (signed (odd n) z) ≡ signed (odd m) z
+signed-back m zero z = rw (add-zero m)
+signed-back m (suc n) z =
+    rw (add-suc m n, odd-suc (m + n), odd-suc n) (go (odd (m + n)) (odd n) ∙ signed-back m n z)
+  where
+    go : (a b : Bool) → signed (not a) (signed (not b) z) ≡ signed a (signed b z)
+    go true true = sym (negℤ-negℤ z)
+    go true false = refl
+    go false true = refl
+    go false false = negℤ-negℤ z
+
 pub own-opposite : (x : ℤ) → x ≡ negℤ x → x ≡ pos 0
 own-opposite (pos zero) e = refl
 own-opposite (pos (suc n)) e = absurd (pos-ne-negsuc (suc n) n e)

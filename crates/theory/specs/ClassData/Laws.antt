@@ -8,8 +8,8 @@ use native.Mathlib.Nat.{le-refl, mul-le-mul, mul-pos, pow-zero, pow-suc, one-mul
 use native.Mathlib.Omega.{arith}
 use borrow.Author.Tests.{eq-eqb, ne-eqb}
 use Rattle.theory.specs.Basics.{Bool, true, false, not, cond, [], _∷_, _++_, map, replicate, length, ℕ, zero, suc}
-use Rattle.theory.specs.Basics.{_+_, _-_, _*_, _%_, _^_, pos, negsuc, _=?_, odd, count, product}
-use Rattle.theory.specs.Basics.Laws.{Each, map-same}
+use Rattle.theory.specs.Basics.{_+_, _-_, _*_, _%_, _^_, pos, negsuc, _=?_, odd, keep, count, product, signed}
+use Rattle.theory.specs.Basics.Laws.{Each, map-same, odd-suc}
 use Rattle.theory.specs.Partition.{Parts, first, isPartition, degree, times}
 use Rattle.theory.specs.Partition.Laws.{front, length-degree}
 use Rattle.theory.specs.Bounds.{factorial}
@@ -31,6 +31,22 @@ sign-by-degree ps h =
     let e : count (λ p. not (odd p)) ps % 2 ≡ (degree ps - length ps) % 2 =
     omega (arith, parity ps, length-degree ps h) in
     rw e
+
+pub sign-cons : (k : ℕ) (ps : Parts) → classSign (suc k ∷ ps) ≡ signed (odd k) (classSign ps)
+unfolding classSign
+sign-cons k ps = rw (odd-suc k) (go (odd k))
+  where
+    evens : Parts
+    evens = keep (λ p. not (odd p)) ps
+
+    turned : (b : Bool) → cond (not b) (negsuc 0) (pos 1) ≡ signed true (cond b (negsuc 0) (pos 1))
+    turned true = refl
+    turned false = refl
+
+    go : (b : Bool) → cond (odd (length (cond (not (not b)) (suc k ∷ evens) evens))) (negsuc 0) (pos 1)
+        ≡ signed b (cond (odd (length evens)) (negsuc 0) (pos 1))
+    go true = rw (odd-suc (length evens)) (turned (odd (length evens)))
+    go false = refl
 
 -- ---- a part that does not occur
 below-none : (q : ℕ) (ps : Parts) → isPartition ps ≡ true → first ps < q → times q ps ≡ 0

@@ -8,10 +8,11 @@ use native.Mathlib.Omega.{arith}
 use borrow.Author.Tests.{lt-ltb, le-ltb}
 use lib.ListN.{length-map, length-drop, drop-of-length-le}
 use lib.Seq.{drop-cons, split-at}
-use lib.IntN.{negℤ-negℤ, +ℤ-idr}
-use Rattle.theory.specs.Basics.{Bool, true, false, not, List, [], _∷_, _++_, map, take, drop, length, getD}
+use lib.IntN.{+ℤ-idr}
+use Rattle.theory.specs.Basics.{Bool, true, false, List, [], _∷_, _++_, map, take, drop, length, getD}
 use Rattle.theory.specs.Basics.{ℕ, zero, suc, _-_, ℤ, pos, negsuc, _-ℤ_, negℤ, odd, sum, signed}
 use Rattle.theory.specs.Basics.Laws.{odd-suc, sum-same, sum-append, sum-map}
+use Rattle.theory.specs.Basics.Integers.{signed-not, signed-zero}
 use Rattle.theory.specs.Partition.{Parts, times, without}
 use Rattle.theory.specs.Partition.Laws.{NoZero, split, no-zero-without, times-zero}
 use Rattle.theory.specs.Digits.{Digits, zeros}
@@ -28,14 +29,6 @@ use Rattle.theory.specs.Hooks.Betas.{digitBetas, length-digitBetas, digi
 use Rattle.theory.specs.Hooks.Betas.{rows-counted}
 
 -- ---- a beta-number that is struck
-signed-not : (minus : Bool) (z : ℤ) → signed (not minus) z ≡ negℤ (signed minus z)
-signed-not true z = sym (negℤ-negℤ z)
-signed-not false z = refl
-
-signed-zero : (minus : Bool) → signed minus (pos 0) ≡ pos 0
-signed-zero true = refl
-signed-zero false = refl
-
 -- an entry moved behind the entries p: each turns the sign
 moved : (f : List ℤ → ℤ) → Alternating f → (x : ℤ) (p q : List ℤ)
     → f (x ∷ (p ++ q)) ≡ signed (odd (length p)) (f (p ++ (x ∷ q)))

@@ -12,7 +12,7 @@ use lib.Pow.{pow-pos}
 use lib.ListN.{length-map, length-reverse}
 use borrow.Author.Tests.{le-leb, lt-leb}
 use Rattle.theory.specs.Basics.{Bool, true, false, not, [], _∷_, _++_, map, reverse, ℕ, zero, suc, _+_, _^_}
-use Rattle.theory.specs.Basics.{length, _≤?_, count, upFrom}
+use Rattle.theory.specs.Basics.{length, replicate, _≤?_, count, upFrom}
 use Rattle.theory.specs.Basics.Laws.{count-append, up-from-one}
 use Rattle.theory.specs.Partition.{Parts, first, isPartition, degree, transposed}
 use Rattle.theory.specs.Partition.Laws.{front}
@@ -23,23 +23,26 @@ use Rattle.theory.specs.Digits.LastOne.{ones-last, length-last, word-las
 use Rattle.theory.specs.ShapeWord.{rows, pairs, conjugate, shapeOf, conjugateWord, shapeWidth, goodShape}
 use Rattle.theory.specs.ShapeWord.Good.{good-shape, shape-good}
 use Rattle.theory.specs.ShapeWord.Laws.{rows-none, rows-zero, rows-last, rows-filled, first-rows, rows-partition}
-use Rattle.theory.specs.ShapeWord.Laws.{degree-pairs}
+use Rattle.theory.specs.ShapeWord.Laws.{degree-pairs, row-cases}
 use Rattle.theory.specs.ShapeWord.InFront.{good-kept, one-good-word}
 
 -- ---- flipped digits
-abbrev flipped : Digits → Digits
+abbrev pub flipped : Digits → Digits
 flipped ds = map not (reverse ds)
 
-flipped-front : (d : Bool) (ds : Digits) → flipped (d ∷ ds) ≡ flipped ds ++ (not d ∷ [])
+pub flipped-front : (d : Bool) (ds : Digits) → flipped (d ∷ ds) ≡ flipped ds ++ (not d ∷ [])
 flipped-front d ds = ap (map not) (reverse-cons d ds) ∙ map-append not (reverse ds) (d ∷ [])
 
-flipped-end : (ds : Digits) (d : Bool) → flipped (ds ++ (d ∷ [])) ≡ not d ∷ flipped ds
+pub flipped-end : (ds : Digits) (d : Bool) → flipped (ds ++ (d ∷ [])) ≡ not d ∷ flipped ds
 flipped-end ds d = ap (map not) (reverse-append ds (d ∷ []))
 
-flipped-twice : (ds : Digits) → flipped (flipped ds) ≡ ds
+pub flipped-twice : (ds : Digits) → flipped (flipped ds) ≡ ds
 flipped-twice [] = refl
 flipped-twice (d ∷ ds) = ap flipped (flipped-front d ds) ∙ flipped-end (flipped ds) (not d)
     ∙ ap₂ (λ (e : Bool) (es : Digits). e ∷ es) (Bool·not-not d) (flipped-twice ds)
+
+pub length-flipped : (ds : Digits) → length (flipped ds) ≡ length ds
+length-flipped ds = length-map (reverse ds) not ∙ length-reverse ds
 
 -- ---- a digit at the end
 abbrev allRows : Digits → Parts
@@ -88,33 +91,45 @@ no-column : (j : ℕ) (ps : Parts) → isPartition ps ≡ true → first ps < j 
 no-column j [] e l = refl
 no-column j (p ∷ ps) e l = let f = front p ps e in rw (lt-leb j p l) (no-column j ps (f .rest) (omega arith))
 
+-- one row has columns of length 1
+pub row-transposed : (n : ℕ) → transposed (n ∷ []) ≡ replicate n 1
+row-transposed n = go 1 n (omega arith)
+  where
+    go : (i m : ℕ) → i + m ≤ suc n → columns i m (n ∷ []) ≡ replicate m 1
+    go i zero l = refl
+    go i (suc m) l = rw (le-leb i n (omega arith)) (ap (λ (ps : Parts). 1 ∷ ps) (go (suc i) m (omega arith)))
+
 -- ---- rows of the conjugate
-rows-flipped : {ds us : Digits} → LastOne ds us → allRows (flipped us) ≡ columns 1 (ones ds) (rows ds)
-rows-flipped (none e) = rw e
-rows-flipped (some {d = true} {ds = ds} {us = us} h u) =
+first-row : (ds : Digits) → first (rows (false ∷ ds)) ≡ ones ds
+first-row ds = row-cases (λ rs. first rs ≡ ones ds) ds (λ e. sym e) (λ h. refl)
+
+columns-flipped : (ds : Digits) → allRows (flipped ds) ≡ columns 1 (ones ds) (rows ds)
+columns-flipped [] = refl
+columns-flipped (true ∷ ds) =
     let e = no-column (suc (ones ds)) (rows ds) (rows-partition ds) (omega (arith, first-rows ds)) in
-    rw (flipped-front true us, all-zero (flipped us), rows-flipped u)
+    rw (flipped-front true ds, all-zero (flipped ds), columns-flipped ds)
     (sym (rw e at (columns-last (ones ds) (rows ds))))
-rows-flipped (some {d = false} {ds = ds} {us = us} h u) =
-    rw (flipped-front false us, all-one (flipped us), rows-flipped u, rows-zero ds h)
-    (sym (columns-row 1 (ones ds) (ones ds) (rows ds) (omega arith)))
+columns-flipped (false ∷ ds) = rw (flipped-front false ds, all-one (flipped ds), columns-flipped ds)
+    (row-cases (λ rs. map suc (columns 1 (ones ds) (rows ds)) ≡ columns 1 (ones ds) rs) ds
+    (λ e. rw e refl)
+    (λ h. sym (columns-row 1 (ones ds) (ones ds) (rows ds) (omega arith))))
 
 rows-end : (ds : Digits) → rows (ds ++ (false ∷ [])) ≡ rows ds
 rows-end ds = sym (rows-last (last (ds ++ (false ∷ [])))) ∙ ap rows (last-zero ds) ∙ rows-last (last ds)
 
+-- whatever zeros are behind the last one, flipped digits have the columns as rows
+pub rows-flipped : (ds : Digits) → rows (flipped ds) ≡ transposed (rows ds)
+rows-flipped [] = refl
+rows-flipped (true ∷ ds) = rw (flipped-front true ds, rows-end (flipped ds)) (rows-flipped ds)
+rows-flipped (false ∷ ds) =
+    let f = flipped-front false ds in
+    rw (f, rows-all (flipped ds), ← f, columns-flipped (false ∷ ds), first-row ds)
+
 pub rows-conjugate : (ds : Digits) → rows (conjugate ds) ≡ transposed (rows ds)
-rows-conjugate ds = go (last ds)
-  where
-    go : {ds us : Digits} → LastOne ds us → rows (flipped us) ≡ transposed (rows ds)
-    go (none {ds = ds} e) = rw (rows-none ds e)
-    go (some {d = true} {us = us} h u) = rw (flipped-front true us, rows-end (flipped us)) (go u)
-    go (some {d = false} {ds = ds} {us = us} h u) =
-        let e : first (rows (false ∷ ds)) ≡ ones ds = ap first (rows-zero ds h) in
-        let f = flipped-front false us in
-        rw (f, rows-all (flipped us), ← f, rows-flipped (some {d = false} h u), e)
+rows-conjugate ds = rows-flipped (upToLastOne ds) ∙ ap transposed (rows-last (last ds))
 
 -- ---- its degree
-zeros-flipped : (ds : Digits) → zeros (flipped ds) ≡ ones ds
+pub zeros-flipped : (ds : Digits) → zeros (flipped ds) ≡ ones ds
 zeros-flipped [] = refl
 zeros-flipped (d ∷ ds) = rw (flipped-front d ds, count-append not (flipped ds) (not d ∷ []), zeros-flipped ds) (go d)
   where
@@ -160,8 +175,7 @@ conjugate-room n x =
     omega (
       arith,
       length-last (last (flipped us)),
-      length-map (reverse us) not,
-      length-reverse us,
+      length-flipped us,
       length-last (last (digits n x)),
       length-digits n x,
     )

@@ -37,7 +37,7 @@ length-shifted [] = omega arith
 length-shifted (true ∷ ds) = omega (arith, length-shifted ds)
 length-shifted (false ∷ ds) = omega arith
 
-rows-shifted : (ds : Digits) → rows (shifted ds) ≡ rows ds
+pub rows-shifted : (ds : Digits) → rows (shifted ds) ≡ rows ds
 rows-shifted [] = refl
 rows-shifted (true ∷ ds) = cc (rows-shifted ds)
 rows-shifted (false ∷ ds) = refl

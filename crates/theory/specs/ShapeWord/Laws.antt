@@ -35,7 +35,7 @@ rows-filled n ds l =
     sym (rows-last (last (filled n ds))) ∙ ap rows (last-filled n ds l) ∙ rows-last (last ds)
 
 -- what holds if a zero is no row and if it is one, holds of the rows from it
-row-cases : (P : Parts → Type 0) (ds : Digits) → (ones ds ≡ 0 → P []) → (0 < ones ds → P (ones ds ∷ rows ds))
+pub row-cases : (P : Parts → Type 0) (ds : Digits) → (ones ds ≡ 0 → P []) → (0 < ones ds → P (ones ds ∷ rows ds))
     → P (rows (false ∷ ds))
 row-cases P ds a b = elim (ℕ-discrete (ones ds) 0) [
   | yes e ↦ rw (rows-none (false ∷ ds) e) (a e)

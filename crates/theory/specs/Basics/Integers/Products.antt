@@ -47,6 +47,10 @@ times-signed true a b =
     *ℤ-comm a (negℤ b) ∙ neg-times b a ∙ ap negℤ (*ℤ-comm b a) ∙ sym (neg-times a b)
 times-signed false a b = refl
 
+pub signed-times : (minus : Bool) (a b : ℤ) → signed minus a *ℤ b ≡ signed minus (a *ℤ b)
+signed-times true a b = neg-times a b
+signed-times false a b = refl
+
 pub times-one : (a : ℤ) → a *ℤ pos 1 ≡ a
 times-one (pos n) = ap pos (mul-one n)
 times-one (negsuc n) = ap (λ (k : ℕ). negℤ (pos k)) (mul-one (suc n))

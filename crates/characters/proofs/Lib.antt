@@ -1,4 +1,6 @@
 pub mod HookSums
+pub mod Identities
+pub mod Lengths
 pub mod SmallTables
 pub mod SmallWords
 pub mod Walks

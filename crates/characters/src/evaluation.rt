@@ -1,6 +1,6 @@
 // The character of a shape word on a class word (document 01, "The character"; document 02, P4): it is looked up in a
 // table if the degree is 4 or less, and else found by its hooks. The cycles are struck in one order, so all walks of an
-// evaluation end in one class: its row is taken out of its table before, and lent.
+// evaluation that end in a table end in one class: its row is taken out of the table before, and lent.
 ghost use mathlib.Core.Path.{_≡_};
 ghost use Prim.Native.Nat.{_+_, _<_, _^_};
 ghost use lib.IntN.{_+ℤ_, natAbs};
@@ -31,5 +31,5 @@ pub fn value(shape: u32, class: u32) -> i64
         return small_tables::look(shape, class);
     }
     let row = small_tables::last_row(class);
-    walking::hook_walk(&row, shape, class)
+    walking::value(&row, shape, class)
 }

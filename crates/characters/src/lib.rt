@@ -2,11 +2,7 @@
 // previewed, committed and watched. Every call takes every input; a refused word or number is 0, a refused call writes
 // nothing.
 ghost use mathlib.Core.Path.{_≡_};
-ghost use Prim.Native.Nat.{_≤_};
-ghost use Rattle.theory.specs.Basics.{replicate};
-ghost use Rattle.theory.specs.ClassWord.{classWord};
 ghost use Rattle.theory.specs.Limits.{degreeLimit};
-ghost use Rattle.theory.specs.Bounds.Laws.{largestLimit};
 ghost use Rattle.words.specs.Answers.{Outcome};
 ghost use Rattle.characters.specs.Calls.{characterOf, shapeCharacterDegree, columnInto};
 use pages::Slip;
@@ -16,6 +12,7 @@ use words::NumberAnswer;
 
 mod columns;
 mod evaluation;
+mod frobenius;
 mod hooks;
 mod lines;
 mod lookup;
@@ -55,14 +52,6 @@ pub fn character(shape: u32, class: u32) -> NumberAnswer
     }
 }
 
-// The class word of (1^n).
-fn ones(n: u32) -> u32
-    requires { ⌜ n ≤ largestLimit ⌝ }
-    ensures { λ r. ⌜ r ≡ classWord (replicate n 1) ⌝ }
-{
-    ((1u32 << n) - 1) << (31 - n)
-}
-
 // The character degree of a shape word: its character on (1^n). Refuses 1, then 2.
 pub fn character_degree(shape: u32) -> NumberAnswer
     ensures { λ r. ⌜ r ≡ shapeCharacterDegree degreeLimit shape ⌝ }
@@ -76,7 +65,7 @@ pub fn character_degree(shape: u32) -> NumberAnswer
     }
     NumberAnswer {
         refused: 0,
-        number: evaluation::value(read.word, ones(read.degree)),
+        number: frobenius::quotient(read.word, read.degree),
     }
 }
 

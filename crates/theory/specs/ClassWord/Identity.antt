@@ -1,14 +1,13 @@
 -- The class (1^n) of the identity: n parts 1, a word of n ones in front.
-use mathlib.Core.Path.{_≡_, refl, sym, _∙_}
+use mathlib.Core.Path.{_≡_, refl}
 use Prim.Native.Nat.{_≤_}
-use native.Mathlib.Nat.{zero-add, suc-add, mod-eq-of-lt}
+use native.Mathlib.Nat.{zero-add, suc-add}
 use native.Mathlib.Omega.{arith}
-use lib.Pow.{high-ones}
-use Rattle.theory.specs.Basics.{true, ℕ, zero, suc, _+_, _-_, _*_, _%_, _^_, replicate}
+use Rattle.theory.specs.Basics.{true, ℕ, zero, suc, _+_, _-_, _^_, replicate}
 use Rattle.theory.specs.Partition.{first, isPartition, degree}
 use Rattle.theory.specs.Partition.Laws.{NoZero, none, some, in-front}
 use Rattle.theory.specs.Digits.{word, width}
-use Rattle.theory.specs.Digits.Laws.{word-below, word-none}
+use Rattle.theory.specs.Digits.Laws.{word-none}
 use Rattle.theory.specs.ClassWord.{classDigits, classWord}
 use Rattle.theory.specs.ClassWord.Laws.{Held}
 
@@ -37,11 +36,8 @@ unfolding word
 ones-front zero m = rw zero-add (omega (arith, word-none m))
 ones-front (suc n) m = rw suc-add (omega (arith, ones-front n m))
 
--- n ones shifted to the front of a word
-pub ones-word : (n : ℕ) → n ≤ width → (2 ^ n - 1) * 2 ^ (31 - n) % 2 ^ 32 ≡ classWord (replicate n 1)
+-- and with the place of the last one added, a one in front of them
+pub ones-word : (n : ℕ) → n ≤ width → classWord (replicate n 1) + 2 ^ (width - n) ≡ 2 ^ width
 ones-word n l =
-    let e : n + (31 - n) ≡ 31 = omega arith in
-    let w = rw e at (ones-front n (31 - n)) in
-    let all : (2 ^ n - 1) * 2 ^ (31 - n) ≡ classWord (replicate n 1) =
-    sym (high-ones n (31 - n)) ∙ rw e (omega arith) in
-    rw all (mod-eq-of-lt (omega (arith, word-below width (classDigits (replicate n 1)))))
+    let e : n + (width - n) ≡ width = omega arith in
+    rw e at (ones-front n (width - n))

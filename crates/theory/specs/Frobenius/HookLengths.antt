@@ -154,7 +154,8 @@ powers-longer ds n (suc more) l =
     ∙ ap (λ (hs : List ℕ). product (map f hs)) (up-from-one (n + more))
     ∙ ap product (map-append f (upFrom 1 (n + more)) (suc (n + more) ∷ []))
     ∙ product-append (map f (upFrom 1 (n + more))) (f (suc (n + more)) ∷ [])
-    ∙ rw (none, pow-zero (suc (n + more)), mul-one) (powers-longer ds n more l)
+    ∙ rw (none, pow-zero (suc (n + more)), mul-one (powers (hooksOf ds) (upFrom 1 (n + more))))
+    (powers-longer ds n more l)
 
 -- ---- the l of digits
 ls-betas : (ds : Digits) → digitBetas ds ≡ map pos (digitLs ds)
@@ -201,6 +202,7 @@ cancelled m p (suc d) n f e h g =
     let again : n * suc d / suc d ≡ n = div-eq-of-eq-mul-left some refl in
     sym once ∙ again
 
+-- the character degree times the lengths of all hooks is n!
 pub hook-lengths : (w : ℕ) → natAbs (characterDegree (shapeOf w)) * hookPowers 1 (degree (shapeOf w)) w
     ≡ factorial (degree (shapeOf w))
 hook-lengths w =

@@ -1,8 +1,8 @@
--- `characters::evaluation::value` meets its contract: at degree 4 or less it is looked up, and above that the hook walk
--- gives it, with the row at hand that the walk ends in.
+-- `characters::evaluation::value` meets its contract: at degree 4 or less it is looked up, and above that the walk gives
+-- it, with the row at hand that it may end in.
 use mathlib.Core.Path.{sym, _∙_}
 use borrow.Author.Needs.{needs}
-use borrow.Author.Tests.{leb-true, leb-false}
+use borrow.Author.Tests.{leb-true}
 use Rattle.characters.specs.Private.SmallTables.{tableLimit}
 use Rattle.characters.proofs.Walks.{character-carried}
 use Rattle.characters.proofs.evaluation.value.Statement.{statement}
@@ -23,16 +23,13 @@ returns c = rw (c .look .ensures) (character-carried (c .before .before .before 
 last-row-requires : tie.Need-last-row-requires
 last-row-requires c κs = search needs
 
-hook-walk-requires : tie.Need-hook-walk-requires
-hook-walk-requires c κs =
-    let tested = c .before .before in
-    let more = leb-false _ tableLimit (sym (tested .before .small .ensures) ∙ tested .if1 .left) in
-    (tested .before .before .pre, (c .before .last-row .ensures, more))
+value-requires : tie.Need-value-requires
+value-requires c κs = (c .before .before .before .before .pre, c .before .last-row .ensures)
 
 returns-2 : tie.Need-returns-2
-returns-2 c = rw (c .hook-walk .ensures) (character-carried (c .before .before .before .before .before .pre .1))
+returns-2 c = rw (c .value .ensures) (character-carried (c .before .before .before .before .before .pre .1))
 
 pub value-spec : {M : Type 1} → statement M
 value-spec =
     tie.close
-    (tie.spec small-requires look-requires returns last-row-requires hook-walk-requires returns-2)
+    (tie.spec small-requires look-requires returns last-row-requires value-requires returns-2)

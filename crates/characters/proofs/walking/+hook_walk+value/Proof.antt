@@ -1,10 +1,11 @@
 -- `characters::walking::hook_walk` and `value` meet their contracts: the hook walk strikes the longest cycle and
--- adds what each hook counts; the value of a smaller word is another walk or, at degree 4 or less, stands in the row.
+-- adds what each hook counts; the value of a smaller word is another walk or, at degree 4 or less, stands in the row, or
+-- is Frobenius's quotient.
 -- The measure is twice the degree of the shape, and one more for the value.
-use mathlib.Core.Path.{sym, _∙_, subst}
+use mathlib.Core.Path.{_≡_, sym, _∙_, ap, subst}
 use Prim.Native.Nat.{ℕ, _+_, _-_, _*_, _%_, _^_, _<_, _≤_}
 use native.Mathlib.Omega.{arith}
-use lib.Count.{leadingZeros}
+use lib.Count.{leadingZeros, trailingZeros}
 use lib.IntN.{ℤ}
 use mir.Facts.{toZ-ofZ}
 use mir.Syntax.{w64}
@@ -14,13 +15,17 @@ use borrow.Author.Tests.{leb-true, leb-false}
 use borrow.Fn.Kinds.{In}
 use borrow.Fn.PlainCycle.{Measures, is, falls, and}
 use Rattle.theory.specs.Partition.{degree}
+use Rattle.theory.specs.Digits.{width}
 use Rattle.theory.specs.ShapeWord.{shapeOf}
 use Rattle.theory.specs.ClassWord.{classOf}
+use Rattle.theory.specs.ClassWord.Reading.{degree-told}
 use Rattle.theory.specs.Character.{_on_}
+use Rattle.pages.proofs.Signed.{carried}
 use Rattle.characters.specs.Private.SmallTables.{tableLimit, rowLength, RowOf}
 use Rattle.characters.proofs.HookSums.{Walked, NextHook, word-below, walk-start, walk-next, walk-end}
+use Rattle.characters.proofs.Identities.{on-identity}
 use Rattle.characters.proofs.Walks.{walk as walkable, evaluable-left, degree-falls, hook-rule-holds}
-use Rattle.characters.proofs.Walks.{FirstCycle, first-cycle, character-carried}
+use Rattle.characters.proofs.Walks.{shape-within, FirstCycle, first-cycle, character-carried}
 use Rattle.characters.proofs.SmallTables.{row-entry, row-within}
 use Rattle.characters.proofs.SmallWords.{others, left-small}
 use Rattle.characters.proofs.walking.hook_walk.Reads as walk
@@ -30,6 +35,8 @@ use Rattle.characters.proofs.walking.value.Reads as value
 use Rattle.characters.proofs.walking.value.Kinds as value-kinds
 use Rattle.characters.proofs.walking.+hook_walk+value.Lts-value as value-lts
 use Rattle.characters.proofs.evaluation.add_signed.Reads as added
+use Rattle.characters.proofs.frobenius.is_identity.Reads as identity
+use Rattle.characters.proofs.frobenius.quotient.Reads as quotient
 use Rattle.characters.proofs.hooks.leaves.Reads as leaves
 use Rattle.characters.proofs.hooks.marks.Reads as marks
 use Rattle.characters.proofs.hooks.minus_in_place.Reads as minus
@@ -81,7 +88,18 @@ module _ (t : ℕ) where
   )
 
   abbrev value-calls : value-lts.Claims
-  value-calls = (small.Asked, small.Learnt, ranked.Asked, ranked.Learnt, walk-below, walk.Post)
+  value-calls = (
+    small.Asked,
+    small.Learnt,
+    ranked.Asked,
+    ranked.Learnt,
+    identity.Asked,
+    identity.Learnt,
+    quotient.Asked,
+    quotient.Learnt,
+    walk-below,
+    walk.Post,
+  )
 
   -- ---- the hook walk
   abbrev In-loop : Type 0
@@ -201,15 +219,42 @@ module _ (t : ℕ) where
       rw (toZ-ofZ (sfits-of (c .result .given)), ranked .shape-rank .ensures)
       (row-entry (row (ranked .before)) (ranked .before .before .before .pre .1 .0 .1))
 
-  walk-requires : value-lts.Need-hook-walk-requires value-calls value-at value.Post
-  walk-requires c κs =
-      let a = c .before .before in
-      let more = leb-false _ tableLimit (sym (c .before .small .ensures) ∙ c .if1 .left) in
-      (omega (arith, a .pre .0), (a .pre .1 .0, (a .pre .1 .1, more)))
+  more : (c : value-lts.Else1 value-calls value-at value.Post)
+      → tableLimit < degree (classOf (c .before .before .args .class))
+  more c = leb-false _ tableLimit (sym (c .before .small .ensures) ∙ c .if1 .left)
+
+  is-identity-requires : value-lts.Need-is-identity-requires value-calls value-at value.Post
+  is-identity-requires c κs = (omega (arith, more c), c .before .before .pre .1 .0 .0)
+
+  told : (c : value-lts.Else1 value-calls value-at value.Post)
+      → let a = c .before .before .args in degree (classOf (a .class)) ≡ 31 - trailingZeros 32 (a .class)
+  told c = degree-told width _ (c .before .before .pre .1 .0 .0)
+
+  sub-quotient : value-lts.Need-sub-quotient value-calls value-at value.Post
+  sub-quotient c = omega (arith, told (c .before .before), more (c .before .before))
+
+  quotient-requires : value-lts.Need-quotient-requires value-calls value-at value.Post
+  quotient-requires c κs =
+      let e = c .before .before .before .before .pre .1 .0 .1 in
+      let t = told (c .before .before) in
+      (omega (arith, shape-within e .good .below), omega (arith, t, e .degrees), omega (arith, t, e .small))
 
   returns-2 : value-lts.Need-returns-2 value-calls value-at value.Post
   returns-2 c =
-      rw (c .hook-walk .ensures) (character-carried (c .before .before .before .pre .1 .0 .1))
+      let tested = c .before .before in
+      let e = tested .before .before .before .pre .1 .0 .1 in
+      rw (c .quotient .ensures)
+      (ap carried (on-identity _ _ (sym (tested .is-identity .ensures) ∙ c .before .if2 .taken)
+      (omega (arith, e .small)) (e .degrees)) ∙ character-carried e)
+
+  walk-requires : value-lts.Need-hook-walk-requires value-calls value-at value.Post
+  walk-requires c κs =
+      let start = c .before .before .before .before in
+      (omega (arith, start .pre .0), (start .pre .1 .0, (start .pre .1 .1, more (c .before .before))))
+
+  returns-3 : value-lts.Need-returns-3 value-calls value-at value.Post
+  returns-3 c =
+      rw (c .hook-walk .ensures) (character-carried (c .before .before .before .before .before .pre .1 .0 .1))
 
 pub +hook-walk+value-spec : {M : Type 1} → statement M
 +hook-walk+value-spec = close μ-walk μ-value (λ t. walk-lts.spec
@@ -240,5 +285,9 @@ pub +hook-walk+value-spec : {M : Type 1} → statement M
     (mul-result t)
     (element-copy-out-result t)
     (returns t)
-    (walk-requires t)
+    (is-identity-requires t)
+    (sub-quotient t)
+    (quotient-requires t)
     (returns-2 t)
+    (walk-requires t)
+    (returns-3 t)

@@ -51,13 +51,13 @@ distances : (k : ℕ) (ds : Digits)
     → factorial k * (toOnes k ds * product (map ((k + length ds) -_) (digitLs ds))) ≡ factorial (k + length ds)
 unfolding factorial
 distances k [] = rw (one-mul, mul-one, add-zero)
-distances k (true ∷ ds) = 
+distances k (true ∷ ds) =
     let e : k + suc (length ds) ≡ suc k + length ds = omega arith in
     rw e (regroup (factorial k) (suc k) (toOnes (suc k) ds) _ ∙ distances (suc k) ds)
   where
     regroup : (f s o z : ℕ) → f * ((s * o) * z) ≡ (s * f) * (o * z)
     regroup f s o z = omega arith
-distances k (false ∷ ds) = 
+distances k (false ∷ ds) =
     let e : k + suc (length ds) ≡ suc k + length ds = omega arith in
     let d : suc k + length ds - length ds ≡ suc k = omega arith in
     rw (e, d) (regroup (factorial k) (suc k) (toOnes (suc k) ds) _ ∙ distances (suc k) ds)

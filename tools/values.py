@@ -547,6 +547,23 @@ def character_degrees(n, seed):
         yield 'characterDegree ' + nats(p), integer(character(p, (1,) * n))
 
 
+@notion(least=LIMIT)
+def quotients(n, seed):
+    """Frobenius's quotients: the characters on (1^n)."""
+    for p in partitions(n):
+        yield 'frobenius ' + nats(p), nat(character(p, (1,) * n))
+
+
+@notion(least=LIMIT)
+def l_numbers(n, seed):
+    """The l of a shape: cells to the right of and below the first one of each row; and their differences."""
+    for p in partitions(n):
+        column = range(len(p))
+        ls = [len({(i, j) for j in range(p[i])} | {(k, 0) for k in column if k > i}) for i in column]
+        yield 'lNumbers ' + nats(p), nats(ls)
+        yield 'differences ' + nats(ls), nats([ls[i] - ls[k] for i in column for k in column if k > i])
+
+
 @notion(each=20, least=LIMIT)
 def far_characters(n, seed):
     """Characters of degrees above those whose whole table is asked: random shapes on random classes of few cycles."""

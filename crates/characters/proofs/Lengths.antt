@@ -4,8 +4,8 @@
 --   Next whole h left all z one     the next of these: the highest mark counts `one`
 use mathlib.Core.Path.{_≡_, refl, sym, _∙_, ap}
 use Prim.Native.Nat.{_≤_, _<_}
-use native.Mathlib.Nat.{pos-of-ne-zero, mul-pos, mul-one, one-mul, pow-suc, pow-zero, mul-assoc, mul-comm, sub-zero, sub-self}
-use native.Mathlib.Nat.{mul-le-mul, le-refl, lt-of-le-of-lt, div-eq-of-eq-mul-left}
+use native.Mathlib.Nat.{pos-of-ne-zero, mul-pos, mul-one, one-mul, pow-suc, pow-zero, mul-assoc, mul-comm}
+use native.Mathlib.Nat.{sub-zero, sub-self, mul-le-mul, le-refl, lt-of-le-of-lt, div-eq-of-eq-mul-left}
 use native.Mathlib.Omega.{arith}
 use lib.Count.{leadingZeros}
 use lib.ListN.{length-map}
@@ -22,7 +22,7 @@ use Rattle.theory.specs.Refusals.Laws.{Within}
 use Rattle.words.proofs.Factorials.{factorial-fits}
 use Rattle.pages.proofs.Signed.{carried, carried-is}
 use Rattle.theory.specs.Hooks.{hookWords}
-use Rattle.theory.specs.Hooks.Marks.{marks, places, markedHook}
+use Rattle.theory.specs.Hooks.Marks.{marks, places}
 use Rattle.theory.specs.Hooks.Marks.Laws.{hooks-marked}
 use Rattle.theory.specs.Hooks.Marks.Walk.{highest, places-none}
 
@@ -64,7 +64,8 @@ lengths-next {whole} {h} {left} {all} long m more =
     let one : ℕ = 1 * 2 ^ (31 - leadingZeros 32 left) % 2 ^ 32 in
     let k : ℕ = length (places width (left - one)) in
     let comes : all * h * h ^ k ≡ whole =
-    mul-assoc all h (h ^ k) ∙ ap (λ (x : ℕ). all * x) (mul-comm h (h ^ k) ∙ sym (pow-suc h k)) ∙ rw (top .rest) at (m .comes) in
+    mul-assoc all h (h ^ k) ∙ ap (λ (x : ℕ). all * x) (mul-comm h (h ^ k) ∙ sym (pow-suc h k))
+    ∙ rw (top .rest) at (m .comes) in
     record {
       within = top .within;
       bits = omega (arith, top .below);

@@ -1,5 +1,5 @@
-// The character on (1^n) by Frobenius's quotient (document 000, formula 10; document 02, P10). To each row, its l! divided
-// by the differences to the later l is the product of the lengths of its hooks. So n! is divided by the lengths of all
+// The character on (1^n) by Frobenius's quotient (document 000, formula 10; document 02, P10). Of each row, l! divided by
+// the differences to the later l is the product of the lengths of its hooks. So n! is divided by the lengths of all
 // hooks, which divide it: nothing on the way is above n!, and the division leaves nothing.
 ghost use mathlib.Core.Path.{_≡_};
 ghost use Prim.Native.Nat.{_*_, _^_, _<_, _≤_};

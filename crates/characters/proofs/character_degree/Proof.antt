@@ -35,7 +35,8 @@ quotient-requires : tie.Need-quotient-requires
 quotient-requires c κs =
     let p = pass c in
     let w = read-within p in
-    (omega (arith, w .good .below), p .degree ∙ sym (ap degree (read-shape p)), omega (arith, p .degree, ap degree (read-shape p), w .small))
+    let n = p .degree ∙ sym (ap degree (read-shape p)) in
+    (omega (arith, w .good .below), n, omega (arith, n, w .small))
 
 returns-2 : tie.Need-returns-2
 unfolding shapeCharacterDegree

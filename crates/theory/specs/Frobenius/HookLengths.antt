@@ -14,11 +14,12 @@ use native.Mathlib.Omega.{arith}
 use lib.ListN.{length-append, length-map, drop-of-length-le}
 use lib.Pow.{pow-add}
 use lib.Seq.{drop-cons}
-use Rattle.theory.specs.Basics.{Bool, true, false, cond, List, [], _∷_, _++_, map, length, take, drop, getD}
-use Rattle.theory.specs.Basics.{replicate, ℕ, zero, suc, _+_, _-_, _*_, _/_, _^_, ℤ, pos, _*ℤ_, natAbs, total, product, upFrom}
+use Rattle.theory.specs.Basics.{Bool, true, false, List, [], _∷_, map, length, take, drop, getD}
+use Rattle.theory.specs.Basics.{replicate, ℕ, zero, suc, _+_, _-_, _*_, _/_, _^_, ℤ, pos, _*ℤ_, natAbs}
+use Rattle.theory.specs.Basics.{total, product, upFrom}
 use Rattle.theory.specs.Basics.Laws.{Each, product-append, up-from-one}
 use Rattle.theory.specs.Partition.{Parts, first, degree}
-use Rattle.theory.specs.Digits.{Digits, digits, ones, zeros, width}
+use Rattle.theory.specs.Digits.{Digits, digits, ones, width}
 use Rattle.theory.specs.ShapeWord.{rows, pairs, shapeOf}
 use Rattle.theory.specs.ShapeWord.Laws.{degree-pairs}
 use Rattle.theory.specs.Bounds.{factorial}
@@ -127,9 +128,10 @@ lengths-factorials (false ∷ ds) n l =
     let ls : List ℕ = digitLs ds in
     let plain : 0 + length ds ≡ length ds = omega arith in
     let own = rw plain at (distances 0 ds) in
+    let to-zeros : ℕ = product (map (length ds -_) ls) in
     rw (powers-zero ds 0 n (omega arith), product-append (map (length ds -_) ls) (differences ls))
-    (regroup (toOnes 0 ds) (powers (hooksOf ds) (upFrom 1 n)) (product (map (length ds -_) ls)) (product (differences ls))
-    ∙ ap₂ _*_ (sym (one-mul (toOnes 0 ds * product (map (length ds -_) ls))) ∙ own)
+    (regroup (toOnes 0 ds) (powers (hooksOf ds) (upFrom 1 n)) to-zeros (product (differences ls))
+    ∙ ap₂ _*_ (sym (one-mul (toOnes 0 ds * to-zeros)) ∙ own)
     (lengths-factorials ds n (omega arith)))
   where
     regroup : (o p z d : ℕ) → o * p * (z * d) ≡ (o * z) * (p * d)

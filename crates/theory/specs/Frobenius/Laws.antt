@@ -1,4 +1,5 @@
--- Formula 10 of document 000: the character on (1^n) is Frobenius's quotient, and its division is exact; for every shape.
+-- Formula 10 of document 000: the character on (1^n) is Frobenius's quotient, and its division is exact, for every
+-- shape.
 -- The character counts at the beta-numbers, the l_i: the claim is made of all lists of l that do not rise, and shown by
 -- induction on n. To strike a cycle of length 1 makes one number one less; the sums of Spreads close the induction.
 --   Claim n        the claim at n, without a division
@@ -9,7 +10,7 @@ use native.Mathlib.Nat.{add-zero, mul-pos, div-eq-of-eq-mul-left}
 use native.Mathlib.Omega.{arith}
 use lib.ListN.{length-map}
 use lib.IntN.{pos-ne-negsuc, +ℤ-invr, +ℤ-negℤ-cancel, *ℤ-zero, zero-*ℤ, *ℤ-comm}
-use Rattle.theory.specs.Basics.{true, List, [], _∷_, _++_, map, length, replicate, ℕ, zero, suc, _+_, _-_}
+use Rattle.theory.specs.Basics.{true, List, [], _∷_, map, length, replicate, ℕ, zero, suc, _+_, _-_}
 use Rattle.theory.specs.Basics.{_*_, _/_, ℤ, pos, negsuc, _+ℤ_, _-ℤ_, _*ℤ_, negℤ, natAbs, sum, total, product}
 use Rattle.theory.specs.Basics.Laws.{product-append}
 use Rattle.theory.specs.Basics.Integers.Products.{times-one, one-times}

@@ -1,5 +1,5 @@
--- `characters::evaluation::value` meets its contract: at degree 4 or less it is looked up, and above that the walk gives
--- it, with the row at hand that it may end in.
+-- `characters::evaluation::value` meets its contract: at degree 4 or less it is looked up, and above that the walk
+-- gives it, with the row at hand that it may end in.
 use mathlib.Core.Path.{sym, _∙_}
 use borrow.Author.Needs.{needs}
 use borrow.Author.Tests.{leb-true}

@@ -1,6 +1,6 @@
 -- `characters::walking::hook_walk` and `value` meet their contracts: the hook walk strikes the longest cycle and
--- adds what each hook counts; the value of a smaller word is another walk or, at degree 4 or less, stands in the row, or
--- is Frobenius's quotient.
+-- adds what each hook counts; the value of a smaller word stands in the row, at degree 4 or less, or is Frobenius's
+-- quotient, or another walk.
 -- The measure is twice the degree of the shape, and one more for the value.
 use mathlib.Core.Path.{_≡_, sym, _∙_, ap, subst}
 use Prim.Native.Nat.{ℕ, _+_, _-_, _*_, _%_, _^_, _<_, _≤_}

@@ -1,8 +1,8 @@
 -- Equations between sums and products of whole numbers, decided: `ring numbers l r refl` shows that the expressions l
--- and r are equal, where the variable i is element i of the numbers, if all coefficients of l - r, multiplied out, are 0.
+-- and r are equal, where variable i is element i of the numbers, if all coefficients of l - r, multiplied out, are 0.
 --   Expr         an expression: a variable, a number, a sum, a product, an opposite; a ⊝ b is the sum of a and ⊖ b
 --   eval         the number that an expression is
---   Poly         a sum of products, each a coefficient times variables in order; normal e, the expression e as such a sum
+--   Poly         a sum of products, each a coefficient times variables in order; normal e, the expression e as one
 --   allZero p    every coefficient is 0
 use mathlib.Core.Path.{_≡_, refl, sym, _∙_, ap, ap₂}
 use mathlib.Core.Bool.{false≢true}

@@ -1,5 +1,6 @@
 /* Symmetrica: the whole table of each degree by chartafel, the best of some runs; then single characters of
-   degrees 8, 12, 14 and 16 by charvalue, on average over all pairs and at worst. Nanoseconds. */
+   degrees 8, 12, 14 and 16 by charvalue, on average over all pairs and at worst, and character degrees by
+   dimension_partition, on average over all shapes. Nanoseconds. */
 #include <symmetrica/def.h>
 #include <symmetrica/macro.h>
 #include <time.h>
@@ -60,6 +61,24 @@ static void singles(int n, int rounds) {
     freeall(value);
 }
 
+static void degrees(int n) {
+    OP degree = callocobject(), parts = callocobject(), value = callocobject();
+    M_I_I(n, degree);
+    makevectorofpart(degree, parts);
+    int count = S_V_LI(parts);
+    double best = 1e18;
+    for (int round = 0; round < 200; round++) {
+        double begun = now();
+        for (int i = 0; i < count; i++) dimension_partition(S_V_I(parts, i), value);
+        double took = now() - begun;
+        if (took < best) best = took;
+    }
+    printf("degrees %d %.1f\n", n, best / count);
+    freeall(degree);
+    freeall(parts);
+    freeall(value);
+}
+
 int main(void) {
     anfang();
     tables();
@@ -67,6 +86,10 @@ int main(void) {
     singles(12, 20);
     singles(14, 5);
     singles(16, 3);
+    degrees(8);
+    degrees(12);
+    degrees(14);
+    degrees(16);
     ende();
     return 0;
 }

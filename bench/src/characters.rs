@@ -1,4 +1,5 @@
-// Single characters: on average over all pairs of a shape and a class of one degree, and at worst.
+// Single characters: on average over all pairs of a shape and a class of one degree, and at worst; and character
+// degrees, on average over all shapes.
 use crate::{class_word, found, library, partitions, shape_word};
 use std::hint::black_box;
 
@@ -26,5 +27,18 @@ pub fn times(best: impl Fn(u32, &mut dyn FnMut()) -> f64, symmetrica: &[Vec<Stri
             "degree {degree:>2}     {:>9.3} µs {:>12.1} µs {:>12.3} µs ({:>5.2}) {:>14.1} µs ({:>5.2})",
             mean / 1e3, worst / 1e3, theirs / 1e3, theirs / mean, their_worst / 1e3, their_worst / worst
         );
+    }
+}
+
+pub fn degrees(best: impl Fn(u32, &mut dyn FnMut()) -> f64, symmetrica: &[Vec<String>]) {
+    println!("character degree   average        Symmetrica (ratio)");
+    for degree in [8u32, 12, 14, 16] {
+        let shapes: Vec<u32> = partitions(degree, degree).iter().map(|parts| shape_word(parts)).collect();
+        let round = best(200, &mut || for &shape in &shapes {
+            black_box(library::character_degree(black_box(shape)));
+        });
+        let mean = round / shapes.len() as f64;
+        let theirs = found(symmetrica, &["degrees", &degree.to_string()], 0);
+        println!("degree {degree:>2}     {:>9.3} µs {:>12.3} µs ({:>5.2})", mean / 1e3, theirs / 1e3, theirs / mean);
     }
 }

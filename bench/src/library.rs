@@ -99,6 +99,7 @@ extern "C" {
     ) -> i64;
     fn zembrusha_column(class: u32, values: *mut i64, length: usize) -> Number;
     fn zembrusha_character(shape: u32, class: u32) -> i64;
+    fn zembrusha_character_degree(shape: u32) -> i64;
     fn zembrusha_class_period(class: u32) -> i64;
     fn zembrusha_shapes_from_old(old: *const u32, count: usize, new: *mut u32, room: usize) -> Listed;
     fn zembrusha_shapes_to_old(new: *const u32, count: usize, old: *mut u32, room: usize) -> Listed;
@@ -110,6 +111,10 @@ pub fn column(class: u32, values: &mut [i64]) -> usize {
 
 pub fn character(shape: u32, class: u32) -> i64 {
     unsafe { zembrusha_character(shape, class) }
+}
+
+pub fn character_degree(shape: u32) -> i64 {
+    unsafe { zembrusha_character_degree(shape) }
 }
 
 pub fn class_period(class: u32) -> i64 {

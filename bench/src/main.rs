@@ -106,6 +106,7 @@ fn main() {
     let symmetrica = peer(&format!("{peers}/../target/symmetrica"), &[]);
     whole_tables(&gap, &symmetrica);
     characters::times(|runs, work| best(runs, work), &symmetrica);
+    characters::degrees(|runs, work| best(runs, work), &symmetrica);
     let all: Vec<Vec<u8>> = (0..=16).flat_map(|n| partitions(n, n)).collect();
     let words: Vec<u32> = all.iter().map(|parts| class_word(parts)).collect();
     periods::times(|runs, work| best(runs, work), &words);

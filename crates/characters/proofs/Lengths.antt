@@ -5,7 +5,7 @@
 use mathlib.Core.Path.{_≡_, refl, sym, _∙_, ap}
 use Prim.Native.Nat.{_≤_, _<_}
 use native.Mathlib.Nat.{pos-of-ne-zero, mul-pos, mul-one, one-mul, pow-suc, pow-zero, mul-assoc, mul-comm}
-use native.Mathlib.Nat.{sub-zero, sub-self, mul-le-mul, le-refl, lt-of-le-of-lt, div-eq-of-eq-mul-left}
+use native.Mathlib.Nat.{sub-zero, sub-self, one-le-pow, le-mul-of-pos-right, lt-of-le-of-lt, div-eq-of-eq-mul-left}
 use native.Mathlib.Omega.{arith}
 use lib.Count.{leadingZeros}
 use lib.ListN.{length-map}
@@ -25,14 +25,6 @@ use Rattle.theory.specs.Hooks.{hookWords}
 use Rattle.theory.specs.Hooks.Marks.{marks, places}
 use Rattle.theory.specs.Hooks.Marks.Laws.{hooks-marked}
 use Rattle.theory.specs.Hooks.Marks.Walk.{highest, places-none}
-
--- ---- powers are positive, and a product is not below its factor
-pub power-positive : (h k : ℕ) → 0 < h → 0 < h ^ k
-power-positive h zero p = rw (pow-zero h) (omega arith)
-power-positive h (suc k) p = rw (pow-suc h k) (mul-pos (power-positive h k p) p)
-
-pub factor-within : (a b : ℕ) → 0 < b → a ≤ a * b
-factor-within a b p = rw (mul-one a) at (mul-le-mul (le-refl a) p)
 
 -- ---- the hooks of one length
 pub record Multiplied (whole h left all : ℕ) : Type 0 where
@@ -71,7 +63,7 @@ lengths-next {whole} {h} {left} {all} long m more =
       bits = omega (arith, top .below);
       some = top .some;
       takes = top .takes;
-      room = rw comes at (factor-within (all * h) (h ^ k) (power-positive h k long));
+      room = rw comes at (le-mul-of-pos-right (all * h) (one-le-pow k h long));
       multiplied = record { below = omega (arith, m .below); comes = comes };
     }
 
@@ -79,7 +71,7 @@ lengths-next {whole} {h} {left} {all} long m more =
 powers-positive : (i n s : ℕ) → 0 < i → 0 < hookPowers i n s
 powers-positive i zero s p = omega arith
 powers-positive i (suc n) s p =
-    mul-pos (power-positive i (length (hookWords i s)) p) (powers-positive (suc i) n s (omega arith))
+    mul-pos (one-le-pow (length (hookWords i s)) i p) (powers-positive (suc i) n s (omega arith))
 
 -- the lengths up to h are multiplied, and h! is made of them too
 pub record Divides (s so-far lengths h : ℕ) : Type 0 where
@@ -108,7 +100,7 @@ module _ (s : ℕ) (small : degree (shapeOf s) ≤ largestLimit) where
   whole-within =
       let f : ℕ = natAbs (characterDegree (shapeOf s)) in
       let some : 0 < f = rw (degree-positive s .is) (omega arith) in
-      rw (mul-comm (hookPowers 1 n s) f ∙ hook-lengths s) at (factor-within (hookPowers 1 n s) f some)
+      rw (mul-comm (hookPowers 1 n s) f ∙ hook-lengths s) at (le-mul-of-pos-right (hookPowers 1 n s) some)
 
   pub divides-start : Divides s 1 1 0
   unfolding factorial
@@ -124,7 +116,7 @@ module _ (s : ℕ) (small : degree (shapeOf s) ≤ largestLimit) where
         let rest : ℕ = hookPowers (suc (suc h)) (n - suc h) s in
         let comes : lengths * power * rest ≡ hookPowers 1 n s =
         mul-assoc lengths power rest ∙ rw more at (d .comes) in
-        let within = factor-within (lengths * power) rest (powers-positive (suc (suc h)) (n - suc h) s (omega arith)) in
+        let within = le-mul-of-pos-right (lengths * power) (powers-positive (suc (suc h)) (n - suc h) s (omega arith)) in
         let next : so-far * suc h ≡ factorial (suc h) = rw (d .factor) (mul-comm (factorial h) (suc h)) in
         let fits = factorial-fits n small in
         rw up

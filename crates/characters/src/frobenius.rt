@@ -1,5 +1,5 @@
-// The character on (1^n) by Frobenius's quotient (document 000, formula 10; document 02, P10). Of each row, l! divided by
-// the differences to the later l is the product of the lengths of its hooks. So n! is divided by the lengths of all
+// The character on (1^n) by Frobenius's quotient (document 000, formula 10; document 02, P10). Of each row, l! divided
+// by the differences to the later l is the product of the lengths of its hooks. So n! is divided by the lengths of all
 // hooks, which divide it: nothing on the way is above n!, and the division leaves nothing.
 ghost use mathlib.Core.Path.{_≡_};
 ghost use Prim.Native.Nat.{_*_, _^_, _<_, _≤_};
@@ -13,7 +13,8 @@ ghost use Rattle.theory.specs.Hooks.{hookWords};
 ghost use Rattle.theory.specs.Bounds.Laws.{largestLimit};
 use super::hooks;
 
-// Whether a class word is that of (1^n).
+// Whether a class word is that of (1^n): its last one, added once more, carries through all ones before it. The word is
+// below 2^31, and its last one is no more than the word.
 pub fn is_identity(class: u32) -> bool
     requires { ⌜ (0 < degreeOf (classOf class)) × (class < 2 ^ width) ⌝ }
     ensures { λ r. ⌜ r ≡ (class =? classWord (replicate (degreeOf (classOf class)) 1)) ⌝ }

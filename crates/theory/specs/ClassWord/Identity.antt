@@ -36,7 +36,7 @@ unfolding word
 ones-front zero m = rw zero-add (omega (arith, word-none m))
 ones-front (suc n) m = rw suc-add (omega (arith, ones-front n m))
 
--- and with the place of the last one added, a one in front of them
+-- the word of (1^n), its last one added once more, is 2^31
 pub ones-word : (n : ℕ) → n ≤ width → classWord (replicate n 1) + 2 ^ (width - n) ≡ 2 ^ width
 ones-word n l =
     let e : n + (width - n) ≡ width = omega arith in

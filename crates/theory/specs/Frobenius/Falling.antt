@@ -8,7 +8,7 @@
 --   Less ls a k     k is ls with one a of its numbers one less: 0 became -1, or the list still does not rise
 use mathlib.Core.Path.{_≡_, refl, _∙_, ap, ap₂, subst}
 use Prim.Native.Nat.{_≤_, _<_}
-use native.Mathlib.Nat.{mul-assoc}
+use native.Mathlib.Nat.{mul-assoc, mul-left-comm}
 use native.Mathlib.Decide.{ℕ-discrete}
 use native.Mathlib.Omega.{arith}
 use Rattle.theory.specs.Basics.{List, [], _∷_, _++_, map, length, ℕ, zero, suc, _+_, _*_, total, product}
@@ -82,14 +82,8 @@ less-later : (l : ℕ) (ls : List ℕ) → Falls (l ∷ ls) → {a : ℤ} {k : L
     → Less (l ∷ ls) a (pos l ∷ k)
 less-later l ls f (below p q e g) = below (pos l ∷ p) q e (ap (λ u. pos l ∷ u) g)
 less-later l ls f (less m ms e g h t n u s) = less m (l ∷ ms) e (ap (λ u. pos l ∷ u) g)
-    (swap (factorial l) (factorials ls) (suc m) (factorials ms) h) (omega arith)
+    (ap (λ z. factorial l * z) h ∙ mul-left-comm (factorial l) (suc m) (factorials ms)) (omega arith)
     (omega (arith, first-above l ls (f .0)), n) (omega arith) (ap suc s)
-  where
-    swap : (a b c d : ℕ) → b ≡ c * d → a * b ≡ c * (a * d)
-    swap a b c d e = ap (λ z. a * z) e ∙ turn a c d
-      where
-        turn : (a c d : ℕ) → a * (c * d) ≡ c * (a * d)
-        turn a c d = omega arith
 
 pub one-less : (ls : List ℕ) → Falls ls → {a : ℤ} {k : List ℤ} → Lower (map pos ls) a k → Less ls a k
 one-less [] f s = elim s [ ]

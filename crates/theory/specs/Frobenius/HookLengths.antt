@@ -1,45 +1,39 @@
 -- Frobenius's quotient by hooks: the character degree times the lengths of all hooks is n!. To each zero belong the
 -- factor l! and the differences to the later l; of its distances to the digits behind it those to zeros are these
 -- differences, and those to ones the lengths of its hooks.
---   digitLs ds          to each zero, how many digits are behind it, as digitBetas
 --   toOnes k ds         the product of the distances to the ones of ds, where the first digit has the distance k + 1
 --   powers f hs         the product of h^(f h) over the numbers hs
 --   hookPowers i n w    each of the n lengths from i, to the power of how many hooks of that length the word w has
 use mathlib.Core.Path.{_≡_, refl, sym, _∙_, ap, ap₂}
 use mathlib.Core.List.{map-append}
 use Prim.Native.Nat.{_≤_, _<_}
-use native.Mathlib.Nat.{add-zero, add-suc, pow-zero, pow-suc, mul-assoc, mul-one, one-mul, div-eq-of-eq-mul-left}
+use native.Mathlib.Nat.{add-zero, add-suc, pow-zero, pow-suc, mul-assoc, mul-one, one-mul, eq-of-mul-eq-mul-right}
 use native.Mathlib.Decide.{decLt}
 use native.Mathlib.Omega.{arith}
 use lib.ListN.{length-append, length-map, drop-of-length-le}
 use lib.Pow.{pow-add}
 use lib.Seq.{drop-cons}
 use Rattle.theory.specs.Basics.{Bool, true, false, List, [], _∷_, map, length, take, drop, getD}
-use Rattle.theory.specs.Basics.{replicate, ℕ, zero, suc, _+_, _-_, _*_, _/_, _^_, ℤ, pos, _*ℤ_, natAbs}
+use Rattle.theory.specs.Basics.{replicate, ℕ, zero, suc, _+_, _-_, _*_, _^_, pos, _*ℤ_, natAbs}
 use Rattle.theory.specs.Basics.{total, product, upFrom}
 use Rattle.theory.specs.Basics.Laws.{Each, product-append, up-from-one}
 use Rattle.theory.specs.Partition.{Parts, first, degree}
-use Rattle.theory.specs.Digits.{Digits, digits, ones, width}
+use Rattle.theory.specs.Digits.{Digits, digits, width}
+use Rattle.theory.specs.Digits.LastOne.{ones-zeros}
 use Rattle.theory.specs.ShapeWord.{rows, pairs, shapeOf}
 use Rattle.theory.specs.ShapeWord.Laws.{degree-pairs}
 use Rattle.theory.specs.Bounds.{factorial}
 use Rattle.theory.specs.ClassWord.Identity.{ones-no-zero}
 use Rattle.theory.specs.Character.{characterDegree}
-use Rattle.theory.specs.Character.Counted.{counted}
 use Rattle.theory.specs.Hooks.{Hook, hooks, hookWord, hookWords}
 use Rattle.theory.specs.Hooks.Walk.{led, hookOver, hooks-none, hooks-one, hooks-zero}
 use Rattle.theory.specs.Hooks.Laws.{Exchange, exchanges}
 use Rattle.theory.specs.Hooks.Degrees.{degree-positive}
-use Rattle.theory.specs.Hooks.Betas.{digitBetas, rows-counted}
+use Rattle.theory.specs.Hooks.Betas.{digitLs, length-digitLs, rows-counted}
 use Rattle.theory.specs.Frobenius.{differences}
 use Rattle.theory.specs.Frobenius.Spreads.{triangle}
 use Rattle.theory.specs.Frobenius.Falling.{NoRise, factorials}
-use Rattle.theory.specs.Frobenius.Laws.{claim, spreads-falls, factorials-positive}
-
-abbrev pub digitLs : Digits → List ℕ
-digitLs [] = []
-digitLs (true ∷ ds) = digitLs ds
-digitLs (false ∷ ds) = length ds ∷ digitLs ds
+use Rattle.theory.specs.Frobenius.Laws.{counted-ones, factorials-positive}
 
 -- ---- the distances of a zero
 abbrev toOnes : ℕ → Digits → ℕ
@@ -160,20 +154,10 @@ powers-longer ds n (suc more) l =
     (powers-longer ds n more l)
 
 -- ---- the l of digits
-ls-betas : (ds : Digits) → digitBetas ds ≡ map pos (digitLs ds)
-ls-betas [] = refl
-ls-betas (true ∷ ds) = ls-betas ds
-ls-betas (false ∷ ds) = ap (λ (l : List ℤ). pos (length ds) ∷ l) (ls-betas ds)
-
-ls-length : (ds : Digits) → length ds ≡ ones ds + length (digitLs ds)
-ls-length [] = refl
-ls-length (true ∷ ds) = omega (arith, ls-length ds)
-ls-length (false ∷ ds) = omega (arith, ls-length ds)
-
 ls-total : (ds : Digits) → total (digitLs ds) ≡ pairs ds + triangle (length (digitLs ds))
 ls-total [] = refl
 ls-total (true ∷ ds) = ls-total ds
-ls-total (false ∷ ds) = omega (arith, ls-length ds, ls-total ds)
+ls-total (false ∷ ds) = omega (arith, length-digitLs ds, ones-zeros ds, ls-total ds)
 
 ls-first : (ds : Digits) → first (digitLs ds) ≤ length ds
 ls-first [] = omega arith
@@ -197,12 +181,8 @@ powers-words w i (suc n) = rw (length-map (hooks i (digits width w)) hookWord, p
 -- a common factor goes
 cancelled : (m p d n f : ℕ) → p * d ≡ f → 0 < f → m * f ≡ n * d → m * p ≡ n
 cancelled m p zero n f e h g = absurd (omega (arith, e))
-cancelled m p (suc d) n f e h g =
-    let some : 0 < suc d = omega arith in
-    let both : m * p * suc d ≡ n * suc d = mul-assoc m p (suc d) ∙ ap (λ (k : ℕ). m * k) e ∙ g in
-    let once : n * suc d / suc d ≡ m * p = div-eq-of-eq-mul-left some (sym both) in
-    let again : n * suc d / suc d ≡ n = div-eq-of-eq-mul-left some refl in
-    sym once ∙ again
+cancelled m p (suc d) n f e h g = eq-of-mul-eq-mul-right (suc d) (omega arith) (m * p) n
+    (mul-assoc m p (suc d) ∙ ap (λ (k : ℕ). m * k) e ∙ g)
 
 -- the character degree times the lengths of all hooks is n!
 pub hook-lengths : (w : ℕ) → natAbs (characterDegree (shapeOf w)) * hookPowers 1 (degree (shapeOf w)) w
@@ -215,9 +195,8 @@ hook-lengths w =
     let (m, e) = at-least w in
     let whole : m * factorials ls ≡ factorial n * product (differences ls) =
     ap natAbs
-    (ap (λ z. z *ℤ pos (factorials ls)) (sym e ∙ rows-counted c (ones-no-zero n) ds ∙ ap (counted c) (ls-betas ds))
-    ∙ claim n ls (ls-no-rise ds) (omega (arith, ls-total ds, degree-pairs ds))
-    ∙ ap (λ z. pos (factorial n) *ℤ z) (spreads-falls ls (ls-no-rise ds))) in
+    (ap (λ z. z *ℤ pos (factorials ls)) (sym e ∙ rows-counted c (ones-no-zero n) ds)
+    ∙ counted-ones n ls (ls-no-rise ds) (omega (arith, ls-total ds, degree-pairs ds))) in
     let powered : hookPowers 1 n w * product (differences ls) ≡ factorials ls =
     rw (powers-words w 1 n, ← (powers-longer ds n (length ds) (omega (arith, degree-pairs ds))))
     (lengths-factorials ds (n + length ds) (omega arith)) in

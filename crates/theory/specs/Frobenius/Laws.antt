@@ -125,7 +125,7 @@ claim-falls n claimed ls f e =
     size = ap₂ (λ a (b : ℕ). a -ℤ pos (triangle b)) (sum-total ls ∙ ap pos e) (length-map ls pos)
         ∙ +ℤ-negℤ-cancel (pos (suc n)) (pos (triangle (length ls)))
 
-pub claim : (n : ℕ) (ls : List ℕ) → NoRise ls → total ls ≡ n + triangle (length ls)
+claim : (n : ℕ) (ls : List ℕ) → NoRise ls → total ls ≡ n + triangle (length ls)
     → counted (replicate n 1) (map pos ls) *ℤ pos (factorials ls) ≡ pos (factorial n) *ℤ spreads (map pos ls)
 unfolding factorial Claim
 claim zero ls w e = go (kind ls w)
@@ -152,10 +152,15 @@ spread-falls l (m ∷ ls) w h =
     ap₂ _*ℤ_ (ap (λ (n : ℕ). pos n -ℤ pos m) back ∙ +ℤ-negℤ-cancel (pos (l - m)) (pos m))
     (spread-falls l ls (w .1) (omega (arith, w .0)))
 
-pub spreads-falls : (ls : List ℕ) → NoRise ls → spreads (map pos ls) ≡ pos (product (differences ls))
+spreads-falls : (ls : List ℕ) → NoRise ls → spreads (map pos ls) ≡ pos (product (differences ls))
 spreads-falls [] w = refl
 spreads-falls (l ∷ ls) w = rw (product-append (map (l -_) ls) (differences ls))
     (ap₂ _*ℤ_ (spread-falls l ls (w .1) (w .0)) (spreads-falls ls (w .1)))
+
+-- the claim, in natural numbers
+pub counted-ones : (n : ℕ) (ls : List ℕ) → NoRise ls → total ls ≡ n + triangle (length ls)
+    → counted (replicate n 1) (map pos ls) *ℤ pos (factorials ls) ≡ pos (factorial n * product (differences ls))
+counted-ones n ls w e = claim n ls w e ∙ ap (λ z. pos (factorial n) *ℤ z) (spreads-falls ls w)
 
 -- ---- a division that leaves nothing
 pub factorials-positive : (ls : List ℕ) → 0 < factorials ls
@@ -209,8 +214,7 @@ formula-exact s p =
     (ap (λ z. z *ℤ pos (factorials ls))
     (character-counted (replicate n 1) (ones-no-zero n) (map pos s) (positive-first (no-zero s p))
     ∙ ap (counted (replicate n 1)) (l-betas s))
-    ∙ claim n ls w (l-total s ∙ ap (λ (k : ℕ). n + triangle k) (sym (l-length s)))
-    ∙ ap (λ z. pos (factorial n) *ℤ z) (spreads-falls ls w))
+    ∙ counted-ones n ls w (l-total s ∙ ap (λ (k : ℕ). n + triangle k) (sym (l-length s))))
 
 pub formula-10 : (s : Parts) → isPartition s ≡ true → characterDegree s ≡ pos (frobenius s)
 unfolding frobenius

@@ -2,6 +2,7 @@
 -- and the class sign is the character of (1^n), the conjugate of one row.
 use mathlib.Core.Path.{_≡_, refl, sym, _∙_, ap, ap₂, fun-ext}
 use mathlib.Core.Bool.{false≢true}
+use Prim.Native.Nat.{_<_}
 use native.Mathlib.Omega.{arith}
 use borrow.Author.Tests.{eq-eqb, ne-eqb}
 use lib.IntN.{+ℤ-idr, +ℤ-comm, +ℤ-negℤ-cancel}
@@ -15,6 +16,8 @@ use Rattle.theory.specs.ShapeWord.{shapeDigits, rows, shapeOf, conjugate
 use Rattle.theory.specs.ShapeWord.Laws.{rows-shape, rows-partition}
 use Rattle.theory.specs.ShapeWord.InFront.{rows-shifted}
 use Rattle.theory.specs.ShapeWord.Conjugate.{flipped, rows-flipped, row-transposed, shape-conjugate}
+use Rattle.theory.specs.ClassWord.{classOf}
+use Rattle.theory.specs.ClassWord.Laws.{parts-no-zero}
 use Rattle.theory.specs.ClassData.{classSign}
 use Rattle.theory.specs.ClassData.Laws.{sign-cons}
 use Rattle.theory.specs.Character.{trimmed, character, _on_}
@@ -54,9 +57,11 @@ flipped-associate (some {p = k} {ps = c} n) ds =
 pub associates : (s c : Parts) → isPartition s ≡ true → NoZero c → transposed s on c ≡ classSign c *ℤ (s on c)
 associates s c p n = rw (rows-flipped (shapeDigits s), rows-shape s p) at (flipped-associate n (shapeDigits s))
 
-pub associate-words : (w : ℕ) (c : Parts) → NoZero c
-    → shapeOf (conjugateWord w) on c ≡ classSign c *ℤ (shapeOf w on c)
-associate-words w c n = rw (shape-conjugate w) (associates (shapeOf w) c (rows-partition (digits width w)) n)
+-- on words: a shape word v and a class word w
+pub associate-words : (v w : ℕ)
+    → shapeOf (conjugateWord v) on classOf w ≡ classSign (classOf w) *ℤ (shapeOf v on classOf w)
+associate-words v w = rw (shape-conjugate v)
+    (associates (shapeOf v) (classOf w) (rows-partition (digits width v)) (parts-no-zero 0 (digits width w)))
 
 -- ---- the sign as a character
 one-row : {c : Parts} → NoZero c → character c (trimmed (pos (degree c) ∷ [])) ≡ pos 1
@@ -68,12 +73,17 @@ one-row (some {p = k} {ps = c} n) =
     ap (λ z. z -ℤ pos (suc k)) (+ℤ-comm (pos (suc k)) (pos d)) ∙ +ℤ-negℤ-cancel (pos d) (pos (suc k)) in
     rw (ne-eqb (suc k + d) 0 (λ e. omega arith), left, +ℤ-idr) (one-row n)
 
+-- formula 4: one row has the character 1 on every class
+pub formula-4 : (c : Parts) → NoZero c → 0 < degree c → (degree c ∷ []) on c ≡ pos 1
+formula-4 c n more = rw (ne-eqb (degree c) 0 (λ e. omega arith)) at (one-row n)
+
+-- formula 5: one column has the class sign
 pub sign-character : (c : Parts) → NoZero c → replicate (degree c) 1 on c ≡ classSign c
 sign-character c none = unfold character classSign in refl
 sign-character c (some {p = k} {ps = ps} n) =
     let d : ℕ = degree c in
-    let row : (d ∷ []) on c ≡ pos 1 = rw (ne-eqb d 0 (λ e. omega arith)) at (one-row {c = c} (some n)) in
-    rw (row-transposed d, row, times-one) at (associates (d ∷ []) c (fall d [] (omega arith) (omega arith)) (some n))
+    rw (row-transposed d, formula-4 c (some n) (omega arith), times-one)
+    at (associates (d ∷ []) c (fall d [] (omega arith) (omega arith)) (some n))
 
 pub formula-6 : (s c : Parts) → isPartition s ≡ true → NoZero c
     → transposed s on c ≡ (replicate (degree c) 1 on c) *ℤ (s on c)

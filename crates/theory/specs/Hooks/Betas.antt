@@ -1,9 +1,9 @@
 -- The beta-numbers of digits are those of their rows and of zero rows behind them: a class counts its character there.
---   digitBetas ds   to each zero, how many digits are behind it
+--   digitLs ds      to each zero, how many digits are behind it; digitBetas ds, the same as whole numbers
 use mathlib.Core.Path.{_≡_, refl, sym, _∙_, ap}
 use native.Mathlib.Omega.{arith}
 use lib.Dec.{eqb·suc-zero}
-use lib.ListN.{length-append}
+use lib.ListN.{length-append, length-map}
 use Rattle.theory.specs.Basics.{true, false, cond, List, [], _∷_, _++_, map, length, replicate}
 use Rattle.theory.specs.Basics.{ℕ, zero, suc, _+_, ℤ, pos, _=?_}
 use Rattle.theory.specs.Partition.{Parts}
@@ -19,15 +19,21 @@ use Rattle.theory.specs.Character.Betas.{betas, length-betas, zeros-behi
 use Rattle.theory.specs.Character.Order.{character-counted}
 use Rattle.theory.specs.Rules.InOrder.{PositiveFirst}
 
+abbrev pub digitLs : Digits → List ℕ
+digitLs [] = []
+digitLs (true ∷ ds) = digitLs ds
+digitLs (false ∷ ds) = length ds ∷ digitLs ds
+
 abbrev pub digitBetas : Digits → List ℤ
-digitBetas [] = []
-digitBetas (true ∷ ds) = digitBetas ds
-digitBetas (false ∷ ds) = pos (length ds) ∷ digitBetas ds
+digitBetas ds = map pos (digitLs ds)
+
+pub length-digitLs : (ds : Digits) → length (digitLs ds) ≡ zeros ds
+length-digitLs [] = refl
+length-digitLs (true ∷ ds) = length-digitLs ds
+length-digitLs (false ∷ ds) = ap suc (length-digitLs ds)
 
 pub length-digitBetas : (ds : Digits) → length (digitBetas ds) ≡ zeros ds
-length-digitBetas [] = refl
-length-digitBetas (true ∷ ds) = length-digitBetas ds
-length-digitBetas (false ∷ ds) = ap suc (length-digitBetas ds)
+length-digitBetas ds = length-map (digitLs ds) pos ∙ length-digitLs ds
 
 pub digitBetas-append : (b a : Digits) → digitBetas (b ++ a) ≡ raisedBy (length a) (digitBetas b) ++ digitBetas a
 digitBetas-append [] a = refl

@@ -556,7 +556,7 @@ def quotients(n, seed):
 
 @notion(least=LIMIT)
 def l_numbers(n, seed):
-    """The l of a shape: cells to the right of and below the first one of each row; and their differences."""
+    """The l of a shape: the cells of the hook of the first cell of each row; and their differences."""
     for p in partitions(n):
         column = range(len(p))
         ls = [len({(i, j) for j in range(p[i])} | {(k, 0) for k in column if k > i}) for i in column]

@@ -112,7 +112,7 @@ fn cycles_left(class: u32) -> u32
     left
 }
 
-// The row that an evaluation on a class word ends in.
+// The row that an evaluation on a class word ends in, if it ends in a table.
 pub fn last_row(class: u32) -> [i64; ROW]
     requires { ⌜ class < 2 ^ width ⌝ }
     ensures { λ r. ⌜ RowOf r (cyclesLeft (classOf class)) ⌝ }

@@ -18,7 +18,7 @@ use super::hooks;
 use super::small_tables;
 use super::small_tables::ROW;
 
-// The character of a shape word on a class word of its degree, with the row at hand that the walk ends in.
+// The character of a shape word on a class word of its degree, with the row at hand of the table that it may end in.
 pub fn value(row: &[i64; ROW], shape: u32, class: u32) -> i64
     requires { ⌜ (class < 2 ^ width) × Evaluable largestLimit shape (classOf class) ⌝ }
     requires { ⌜ RowOf (now row) (cyclesLeft (classOf class)) ⌝ }

@@ -1,5 +1,5 @@
-//! Two formulas of document 000 that are no theorems of the base: (6), that a conjugate shape has the sign of the class
-//! times the character, and (10), that a character degree is Frobenius's quotient.
+//! Two formulas of document 000, which are theorems since P10 and are run all the same: (6), that a conjugate shape has
+//! the sign of the class times the character, and (10), that a character degree is Frobenius's quotient.
 
 use crate::calls;
 use crate::model::characters::Characters;

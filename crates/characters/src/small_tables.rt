@@ -4,7 +4,7 @@
 ghost use mathlib.Core.Path.{_≡_};
 ghost use mathlib.Core.Bool.{true};
 ghost use Prim.Native.Nat.{_^_, _<_, _≤_};
-ghost use Rattle.theory.specs.Basics.{length, _≤?_};
+ghost use Rattle.theory.specs.Basics.{[], length, getD, _≤?_, pos};
 ghost use Rattle.theory.specs.Partition.{degree};
 ghost use Rattle.theory.specs.Digits.{width};
 ghost use Rattle.theory.specs.ShapeWord.{shapeOf, goodShape};
@@ -13,15 +13,15 @@ ghost use Rattle.theory.specs.Character.{_on_};
 ghost use Rattle.theory.specs.Listing.{listing, rank as rankOf};
 ghost use Rattle.theory.specs.Bounds.Laws.{largestLimit};
 ghost use Rattle.characters.specs.Private.Evaluation.{Evaluable};
-ghost use Rattle.characters.specs.Private.SmallTables.{tableLimit, SmallClass, SameColumn, TableRow, RowOf};
-ghost use Rattle.characters.specs.Private.SmallTables.{cyclesLeft};
+ghost use Rattle.characters.specs.Private.SmallTables.{tableLimit, smallTables, SmallClass, SameColumn};
+ghost use Rattle.characters.specs.Private.SmallTables.{TableRow, RowOf, cyclesLeft};
 
 // The longest row has so many numbers.
 pub const ROW: usize = 5;
 
 const ZERO: [[i64; 1]; 1] = [[1]];
 
-const ONE: [[i64; 1]; 1] = [[1]];
+const ONE: [[i64; 1]; 1] = ZERO;
 
 const TWO: [[i64; 2]; 2] = [[1, -1], [1, 1]];
 
@@ -66,27 +66,78 @@ fn class_rank(class: u32) -> usize
     ((CLASS_RANKS >> ((class >> 27) * 4)) % 16) as usize
 }
 
+// The row of a rank in the table of degree 4.
+fn row_of_four(rank: usize) -> [i64; ROW]
+    requires { ⌜ rank < 5 ⌝ }
+    ensures { λ r. ⌜ TableRow 4 rank r ⌝ }
+{
+    FOUR[rank]
+}
+
+// The number for a class and a shape, by their ranks, in the table of degree 3.
+fn three_at(class: usize, shape: usize) -> i64
+    requires { ⌜ (class < 3) × (shape < 3) ⌝ }
+    ensures { λ r. ⌜ r ≡ getD (getD (getD smallTables 3 []) class []) shape (pos 0) ⌝ }
+{
+    THREE[class][shape]
+}
+
+// The row of a rank in the table of degree 3, and zeros after it. Single numbers are read, which is quicker.
+fn row_of_three(rank: usize) -> [i64; ROW]
+    requires { ⌜ rank < 3 ⌝ }
+    ensures { λ r. ⌜ TableRow 3 rank r ⌝ }
+{
+    [
+        three_at(rank, 0),
+        three_at(rank, 1),
+        three_at(rank, 2),
+        0,
+        0,
+    ]
+}
+
+// The number for a class and a shape, by their ranks, in the table of degree 2.
+fn two_at(class: usize, shape: usize) -> i64
+    requires { ⌜ (class < 2) × (shape < 2) ⌝ }
+    ensures { λ r. ⌜ r ≡ getD (getD (getD smallTables 2 []) class []) shape (pos 0) ⌝ }
+{
+    TWO[class][shape]
+}
+
+// The row of a rank in the table of degree 2, and zeros after it, read like that of degree 3.
+fn row_of_two(rank: usize) -> [i64; ROW]
+    requires { ⌜ rank < 2 ⌝ }
+    ensures { λ r. ⌜ TableRow 2 rank r ⌝ }
+{
+    [two_at(rank, 0), two_at(rank, 1), 0, 0, 0]
+}
+
+// The row of a rank in the table of degree 1, which is that of degree 0 too, and zeros after it.
+fn row_of_one(rank: usize) -> [i64; ROW]
+    requires { ⌜ rank < 1 ⌝ }
+    ensures { λ r. ⌜ TableRow 0 rank r × TableRow 1 rank r ⌝ }
+{
+    [ONE[rank][0], 0, 0, 0, 0]
+}
+
 // The row of a rank in the table for a class word of degree 4 or less, and zeros after it. The zeros behind the last
-// one tell the degree. A table is made on the stack here; so this is called in two places, that no caller takes it in
-// and keeps the table under a walk. Small rows are read by single numbers, which is quicker.
+// one tell the degree. The compiler takes in what is called here, and so the tables on the stack; hence this is called
+// in two places, that no caller takes it in and keeps a table under a walk.
 fn table_row(class: u32, rank: usize) -> [i64; ROW]
     requires { ⌜ SmallClass class × (rank < length (listing (degree (classOf class)))) ⌝ }
     ensures { λ r. ⌜ TableRow (degree (classOf class)) rank r ⌝ }
 {
     let zeros = u32::trailing_zeros(class);
     if zeros == 27 {
-        return FOUR[rank];
+        return row_of_four(rank);
     }
     if zeros == 28 {
-        return [THREE[rank][0], THREE[rank][1], THREE[rank][2], 0, 0];
+        return row_of_three(rank);
     }
     if zeros == 29 {
-        return [TWO[rank][0], TWO[rank][1], 0, 0, 0];
+        return row_of_two(rank);
     }
-    if zeros == 30 {
-        return [ONE[rank][0], 0, 0, 0, 0];
-    }
-    [ZERO[rank][0], 0, 0, 0, 0]
+    row_of_one(rank)
 }
 
 // The character of a shape word on a class word of its degree, which is 4 or less: the number at their ranks.

@@ -23,7 +23,7 @@ use Rattle.theory.specs.Listing.{listing, partitions, rank, partitionCounts}
 use Rattle.theory.specs.Listing.Laws.{count-kept}
 use Rattle.theory.specs.Listing.Ranks.{Stands, at-rank, listed}
 use Rattle.theory.specs.Column.{column}
-use Rattle.theory.specs.Column.Laws.{column-at}
+use Rattle.theory.specs.Column.Laws.{column-at, column-length}
 use Rattle.characters.specs.Private.Evaluation.{Evaluable}
 use Rattle.characters.specs.Private.SmallTables.{tableLimit, rowLength, smallTables, SmallClass, SameColumn}
 use Rattle.characters.specs.Private.SmallTables.{TableRow, RowOf}
@@ -52,6 +52,11 @@ module _ (n r : ℕ) (small : n ≤ tableLimit) (within : r < length (listing n)
       let class : Parts = getD (listing n) r [] in
       let e = at-rank n r within .of-degree in
       rw table-column (rw e at (column-at class i (rw e h)))
+
+  pub table-long : length (getD (getD smallTables n []) r []) ≡ length (listing n)
+  table-long =
+      let class : Parts = getD (listing n) r [] in
+      rw table-column (column-length class ∙ ap (λ (n : ℕ). length (listing n)) (at-rank n r within .of-degree))
 
 -- a row that is copied number by number, with others after it
 module _ (n r k : ℕ) (after : List ℤ) where

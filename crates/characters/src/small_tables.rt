@@ -66,26 +66,12 @@ fn class_rank(class: u32) -> usize
     ((CLASS_RANKS >> ((class >> 27) * 4)) % 16) as usize
 }
 
-// The number for a class and a shape, by their ranks, in the table of degree 4.
-fn four_at(class: usize, shape: usize) -> i64
-    requires { ⌜ (class < 5) × (shape < 5) ⌝ }
-    ensures { λ r. ⌜ r ≡ getD (getD (getD smallTables 4 []) class []) shape (pos 0) ⌝ }
-{
-    FOUR[class][shape]
-}
-
-// The row of a rank in the table of degree 4. Single numbers are read, which is quicker.
+// The row of a rank in the table of degree 4.
 fn row_of_four(rank: usize) -> [i64; ROW]
     requires { ⌜ rank < 5 ⌝ }
     ensures { λ r. ⌜ TableRow 4 rank r ⌝ }
 {
-    [
-        four_at(rank, 0),
-        four_at(rank, 1),
-        four_at(rank, 2),
-        four_at(rank, 3),
-        four_at(rank, 4),
-    ]
+    FOUR[rank]
 }
 
 // The number for a class and a shape, by their ranks, in the table of degree 3.
@@ -96,7 +82,7 @@ fn three_at(class: usize, shape: usize) -> i64
     THREE[class][shape]
 }
 
-// The row of a rank in the table of degree 3, and zeros after it, read like that of degree 4.
+// The row of a rank in the table of degree 3, and zeros after it. Single numbers are read, which is quicker.
 fn row_of_three(rank: usize) -> [i64; ROW]
     requires { ⌜ rank < 3 ⌝ }
     ensures { λ r. ⌜ TableRow 3 rank r ⌝ }
@@ -118,7 +104,7 @@ fn two_at(class: usize, shape: usize) -> i64
     TWO[class][shape]
 }
 
-// The row of a rank in the table of degree 2, and zeros after it, read likewise.
+// The row of a rank in the table of degree 2, and zeros after it, read like that of degree 3.
 fn row_of_two(rank: usize) -> [i64; ROW]
     requires { ⌜ rank < 2 ⌝ }
     ensures { λ r. ⌜ TableRow 2 rank r ⌝ }

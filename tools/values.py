@@ -45,7 +45,7 @@ from model import (  # noqa: E402
 from texts import (  # noqa: E402
     LEAST, MOST, by_hand, bytes_of, damaged, gathered_by_hand, loaded, put_away, saved, taken_up)
 
-CRATES = ['theory', 'text', 'words', 'listing', 'linewords', 'pages', 'characters', 'sessiontext']
+CRATES = ['theory', 'text', 'textreading', 'words', 'listing', 'linewords', 'pages', 'characters', 'sessiontext']
 NO_SPECS = ['clearing']  # what some of them rest on, and that defines nothing
 LIBRARIES = ['check', 'io']  # what some of them rest on
 
@@ -1105,7 +1105,7 @@ CONSTRUCTORS = {
 LIBRARY = ['div', 'ofInt']  # definitions of lib.Ieee that have to be unfolded
 PASSED_OVER = ['Lib.antt', 'Private.antt', 'Examples.antt']
 HIDDEN = [  # asked by no notion, and named as something else is
-    ('text', 'step'), ('pages', 'left')]
+    ('textreading', 'step'), ('pages', 'left')]
 OWN = """
 abbrev hook : Bool → ℕ → Hook ℕ
 hook minus left = record { minus = minus; leaves = left }

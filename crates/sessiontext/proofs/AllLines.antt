@@ -14,8 +14,8 @@ use Rattle.theory.specs.Digits.{width}
 use Rattle.theory.specs.Limits.{degreeLimit}
 use Rattle.theory.specs.Refusals.{firstOf}
 use Rattle.text.specs.Text.{Text}
-use Rattle.text.specs.Reading.{linesOf, firstLine}
-use Rattle.text.specs.Reading.Lines.{Next, next}
+use Rattle.textreading.specs.Reading.{linesOf, firstLine}
+use Rattle.textreading.specs.Reading.Lines.{Next, next}
 use Rattle.pages.specs.declared.Budget.{Budget}
 use Rattle.pages.specs.Line.{Line}
 use Rattle.pages.specs.Page.{lineOf, wordOf}

@@ -19,9 +19,9 @@ use Rattle.theory.specs.ClassWord.{classWord}
 use Rattle.theory.specs.Limits.{degreeLimit}
 use Rattle.theory.specs.Refusals.{firstOf}
 use Rattle.text.specs.Text.{Text}
-use Rattle.text.specs.Reading.{before, linesOf, firstLine}
-use Rattle.text.specs.Reading.Bytes.{before-take, before-fits}
-use Rattle.text.specs.Reading.Lines.{Next, next}
+use Rattle.textreading.specs.Reading.{before, linesOf, firstLine}
+use Rattle.textreading.specs.Reading.Bytes.{before-take, before-fits}
+use Rattle.textreading.specs.Reading.Lines.{Next, next}
 use Rattle.pages.specs.Line.{Line}
 use Rattle.pages.specs.Page.{wordOf, plain}
 use Rattle.pages.specs.Mode.{weighted, unit, wordsOf, weightsOf}

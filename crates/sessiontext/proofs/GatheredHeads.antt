@@ -18,8 +18,8 @@ use Rattle.theory.specs.Limits.{degreeLimit}
 use Rattle.theory.specs.Refusals.{Check, firstOf}
 use Rattle.theory.specs.Refusals.Laws.{Numbered, none-applies, first-below}
 use Rattle.text.specs.Text.{Text, ascii, decimal, field}
-use Rattle.text.specs.Reading.{numberIn, integerIn, listIn, linesOf, firstLine}
-use Rattle.text.specs.Reading.Lines.{Next, next}
+use Rattle.textreading.specs.Reading.{numberIn, integerIn, listIn, linesOf, firstLine}
+use Rattle.textreading.specs.Reading.Lines.{Next, next}
 use Rattle.pages.specs.declared.Slip.{Slip}
 use Rattle.pages.specs.Page.{slipOf}
 use Rattle.sessiontext.specs.declared.reading.HeadRead.{HeadRead}

@@ -16,8 +16,8 @@ use Rattle.theory.specs.Limits.{degreeLimit}
 use Rattle.theory.specs.Refusals.{Check, firstOf}
 use Rattle.theory.specs.Refusals.Laws.{none-applies}
 use Rattle.text.specs.Text.{Text, ascii, decimal, field}
-use Rattle.text.specs.Reading.{numberIn, listIn, linesOf, firstLine}
-use Rattle.text.specs.Reading.Lines.{Next}
+use Rattle.textreading.specs.Reading.{numberIn, listIn, linesOf, firstLine}
+use Rattle.textreading.specs.Reading.Lines.{Next}
 use Rattle.pages.specs.Page.{slipOf}
 use Rattle.sessiontext.specs.declared.numbers.NumberRead.{NumberRead}
 use Rattle.sessiontext.specs.declared.numbers.IntegerRead.{IntegerRead}

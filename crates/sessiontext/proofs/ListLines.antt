@@ -8,7 +8,7 @@ use Rattle.theory.specs.Basics.Keep.{same-test}
 use Rattle.theory.specs.Partition.{Parts}
 use Rattle.theory.specs.Limits.{degreeLimit}
 use Rattle.text.specs.Text.{Text, listText, textLine}
-use Rattle.text.specs.Reading.{listIn}
+use Rattle.textreading.specs.Reading.{listIn}
 use Rattle.sessiontext.specs.declared.partitions.PartsRead.{PartsRead}
 use Rattle.sessiontext.specs.SessionText.Room.{line-length, list-short}
 use Rattle.sessiontext.specs.Reading.{isList}

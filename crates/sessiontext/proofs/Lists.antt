@@ -19,7 +19,7 @@ use Rattle.words.proofs.Callers.{word-given-by}
 use Rattle.text.specs.Text.{Text}
 use Rattle.text.specs.Wrote.{Wrote}
 use Rattle.text.specs.Wrote.Laws.{wrote-length, wrote-take}
-use Rattle.text.specs.Reading.{small, listIn}
+use Rattle.textreading.specs.Reading.{small, listIn}
 use Rattle.sessiontext.specs.Reading.{inLimit}
 use Rattle.sessiontext.specs.Reading.Forms.{InLimit, in-limit, limit-in}
 use Rattle.sessiontext.specs.Private.Read.{noParts, ReadParts}

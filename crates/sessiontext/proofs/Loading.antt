@@ -16,7 +16,7 @@ use Rattle.theory.specs.Refusals.{Check, firstOf, no-7, no-10, no-16}
 use Rattle.theory.specs.Refusals.Laws.{Numbered, first-refuses, first-passes, or-refused}
 use Rattle.words.specs.Answers.{Outcome}
 use Rattle.text.specs.Text.{Text}
-use Rattle.text.specs.Reading.{linesOf}
+use Rattle.textreading.specs.Reading.{linesOf}
 use Rattle.pages.specs.Mode.{plainMode}
 use Rattle.pages.specs.Sound.{soundWith}
 use Rattle.pages.specs.declared.Budget.{Budget}

@@ -11,7 +11,7 @@ use Rattle.theory.specs.Basics.{Bool, true, false, ℕ, _^_, pos, length}
 use Rattle.theory.specs.Basics.Keep.{same-test}
 use Rattle.text.specs.Text.{Text, ascii, decimal, textLine}
 use Rattle.text.specs.Wrote.{most}
-use Rattle.text.specs.Reading.{numberIn}
+use Rattle.textreading.specs.Reading.{numberIn}
 use Rattle.sessiontext.specs.declared.numbers.NumberRead.{NumberRead}
 use Rattle.sessiontext.specs.SessionText.Room.{number-length}
 use Rattle.sessiontext.specs.Reading.{isNumber}

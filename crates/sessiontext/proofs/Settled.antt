@@ -15,8 +15,8 @@ use Rattle.theory.specs.Basics.Keep.{same-test}
 use Rattle.text.specs.Text.{Text, ascii, integer, field}
 use Rattle.text.specs.Text.Decimals.{integer-length}
 use Rattle.text.specs.Wrote.{most}
-use Rattle.text.specs.Reading.{numberIn, holds, before, integerIn}
-use Rattle.text.specs.Reading.Bytes.{byte-found, byte-missing}
+use Rattle.textreading.specs.Reading.{numberIn, holds, before, integerIn}
+use Rattle.textreading.specs.Reading.Bytes.{byte-found, byte-missing}
 use Rattle.sessiontext.specs.declared.numbers.IntegerRead.{IntegerRead}
 use Rattle.sessiontext.specs.SessionText.{held}
 use Rattle.sessiontext.specs.SessionText.Room.{line-length}

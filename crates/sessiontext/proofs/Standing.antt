@@ -22,8 +22,8 @@ use Rattle.words.specs.Answers.{worded}
 use Rattle.words.specs.Private.Reading.{listChecks}
 use Rattle.text.specs.Text.{Text, ascii, decimal, commas, listText}
 use Rattle.text.specs.Text.Decimals.{one-digit, two-digits}
-use Rattle.text.specs.Reading.{firstLine}
-use Rattle.text.specs.Reading.Lines.{Line, line-first}
+use Rattle.textreading.specs.Reading.{firstLine}
+use Rattle.textreading.specs.Reading.Lines.{Line, line-first}
 use Rattle.pages.specs.Page.{wordOf, plain}
 use Rattle.sessiontext.specs.declared.straight.ListAt.{ListAt}
 use Rattle.sessiontext.specs.declared.straight.WordAt.{WordAt}

@@ -21,8 +21,8 @@ use Rattle.theory.specs.ClassWord.{classWord}
 use Rattle.theory.specs.Digits.{width}
 use Rattle.theory.specs.Limits.{degreeLimit}
 use Rattle.text.specs.Text.{Text}
-use Rattle.text.specs.Reading.{holds, before, behind}
-use Rattle.text.specs.Reading.Bytes.{before-take, before-fits, byte-found, byte-missing}
+use Rattle.textreading.specs.Reading.{holds, before, behind}
+use Rattle.textreading.specs.Reading.Bytes.{before-take, before-fits, byte-found, byte-missing}
 use Rattle.pages.specs.Line.{Line}
 use Rattle.pages.specs.Page.{lineOf, wordOf, plain}
 use Rattle.pages.specs.Page.Words.{line-read}

@@ -7,7 +7,7 @@ use Rattle.theory.specs.ShapeWord.{shapeWord}
 use Rattle.theory.specs.ClassWord.{classWord}
 use Rattle.theory.specs.Limits.{degreeLimit}
 use Rattle.text.specs.Text.{Text, ascii, decimal, integer, commas}
-use Rattle.text.specs.Reading.{numberIn, integerIn, listIn, linesOf}
+use Rattle.textreading.specs.Reading.{numberIn, integerIn, listIn, linesOf}
 use Rattle.pages.specs.declared.Slip.{Slip}
 use Rattle.pages.specs.Line.{Line}
 use Rattle.pages.specs.Page.{slipOf, wordOf}

@@ -22,7 +22,7 @@ use Rattle.theory.specs.ShapeWord.{shapeWord}
 use Rattle.theory.specs.ClassWord.{classWord}
 use Rattle.theory.specs.Refusals.{Check, firstOf}
 use Rattle.text.specs.Text.{Text, ascii, decimal, integer, listText, textLine, field}
-use Rattle.text.specs.Reading.{numberIn, holds, integerIn, before, behind, listIn, linesOf}
+use Rattle.textreading.specs.Reading.{numberIn, holds, integerIn, before, behind, listIn, linesOf}
 use Rattle.pages.specs.Line.{Line}
 use Rattle.pages.specs.declared.Slip.{Slip}
 use Rattle.pages.specs.Page.{slipOf}

@@ -18,7 +18,7 @@ use Rattle.theory.specs.Partition.{Parts, degree}
 use Rattle.theory.specs.ShapeWord.{shapeOf}
 use Rattle.theory.specs.ClassWord.{classOf}
 use Rattle.text.specs.Text.{Text, ascii, decimal, integer, listText, field}
-use Rattle.text.specs.Reading.{holds, integerIn}
+use Rattle.textreading.specs.Reading.{holds, integerIn}
 use Rattle.pages.specs.Line.{Line}
 use Rattle.pages.specs.declared.Slip.{Slip}
 use Rattle.pages.specs.Mode.{Mode, plainMode, gatheredMode}

@@ -5,7 +5,7 @@ ghost use Rattle.theory.specs.Basics.{length, drop};
 ghost use Rattle.theory.specs.Basics.Laws.{Each};
 ghost use Rattle.theory.specs.Limits.{degreeLimit};
 ghost use Rattle.theory.specs.Refusals.{firstOf};
-ghost use Rattle.text.specs.Reading.{linesOf};
+ghost use Rattle.textreading.specs.Reading.{linesOf};
 ghost use Rattle.sessiontext.specs.SessionText.{gatheredForm};
 ghost use Rattle.sessiontext.specs.Reading.{lineFaultsBy};
 ghost use Rattle.sessiontext.specs.Reading.Forms.{WaitingBy};
@@ -13,7 +13,6 @@ ghost use Rattle.sessiontext.specs.Private.Weighted.{ToldWeighted, ReadW
 use super::numbers;
 use super::waiting;
 use super::weighted;
-use text::reading;
 
 pub struct WeightedRead {
     pub formed: bool,
@@ -27,7 +26,7 @@ fn line_in(line: &[u8]) -> WeightedRead
     ensures { λ r. ⌜ ToldWeighted (now (line .entry)) r ⌝ }
 {
     let read = waiting::word_in(line);
-    let first = reading::find(59, line, 0);
+    let first = textreading::find(59, line, 0);
     let weight = numbers::integer_in(&line[..first]);
     WeightedRead {
         formed: waiting::both(weight.formed, read.formed),
@@ -64,7 +63,7 @@ pub fn first_fault(text: &[u8], start: usize) -> usize
     let mut at = start;
     let mut count = 0;
     while at < text.len() {
-        let end = reading::line_end(text, at);
+        let end = textreading::line_end(text, at);
         let read = waiting_line(&text[at..end]);
         if !read.formed {
             return count + 8;
@@ -88,7 +87,7 @@ pub fn put(text: &[u8], start: usize, page: &mut [u64], column: &mut [i64])
     let mut at = start;
     let mut count = 0;
     while at < text.len() {
-        let end = reading::line_end(text, at);
+        let end = textreading::line_end(text, at);
         let read = line_in(&text[at..end]);
         page[count] = read.word;
         let coefficient = read.coefficient;

@@ -5,7 +5,7 @@ ghost use Prim.Native.Nat.{_≤_};
 ghost use Rattle.theory.specs.Basics.{length, drop, _≤?_};
 ghost use Rattle.theory.specs.Limits.{degreeLimit, pageLimit};
 ghost use Rattle.words.specs.Answers.{Outcome};
-ghost use Rattle.text.specs.Reading.{linesOf};
+ghost use Rattle.textreading.specs.Reading.{linesOf};
 ghost use Rattle.pages.specs.Page.{slipOf};
 ghost use Rattle.pages.specs.Mode.{alongside, gatheredMode};
 ghost use Rattle.pages.specs.Sound.{soundWith};
@@ -91,7 +91,7 @@ fn in_mode(slip: Slip) -> Slip
 fn head(text: &[u8]) -> HeadRead
     ensures { λ r. ⌜ ReadFronted (now (text .entry)) r ⌝ }
 {
-    let front = text::reading::line_end(text, 0);
+    let front = textreading::line_end(text, 0);
     let plain = reading::head(&text[front..]);
     let slip = in_mode(plain.slip);
     if !check::same(&text[..front], b"mode=gathered\n") {

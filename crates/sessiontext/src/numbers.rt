@@ -3,7 +3,6 @@
 ghost use Rattle.sessiontext.specs.Private.Read.{Named, ReadNumber, ReadSigned, ReadInteger, ReadSteps};
 ghost use Rattle.sessiontext.specs.Private.Read.{ReadSettled};
 use text::fields;
-use text::reading;
 
 pub struct NumberRead {
     pub formed: bool,
@@ -20,7 +19,7 @@ pub fn number(name: &[u8], line: &[u8]) -> NumberRead
     requires { ⌜ Named (now name) ⌝ }
     ensures { λ r. ⌜ ReadNumber (now (name .entry)) (now (line .entry)) r ⌝ }
 {
-    let number = reading::number_in(line);
+    let number = textreading::number_in(line);
     let mut own = [0u8; 32];
     let end = fields::number(name, number, &mut own, 0);
     NumberRead {
@@ -84,8 +83,8 @@ fn signed(minus: bool, size: u64) -> IntegerRead
 pub fn integer_in(text: &[u8]) -> IntegerRead
     ensures { λ r. ⌜ ReadInteger (now (text .entry)) r ⌝ }
 {
-    let size = reading::number_in(text);
-    let minus = reading::find(45, text, 0) < text.len();
+    let size = textreading::number_in(text);
+    let minus = textreading::find(45, text, 0) < text.len();
     signed(minus, size)
 }
 

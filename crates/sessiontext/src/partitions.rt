@@ -6,7 +6,6 @@ ghost use Rattle.theory.specs.ShapeWord.{shapeWord};
 ghost use Rattle.theory.specs.ClassWord.{classWord};
 ghost use Rattle.sessiontext.specs.Private.Read.{ReadParts, noParts, ReadShape, ReadClass};
 use text::fields;
-use text::reading;
 
 // A part list in a text: whether it is a partition within the limit, and then how many parts it has, and its word.
 pub struct PartsRead {
@@ -42,7 +41,7 @@ pub fn shape_in(text: &[u8], column: &mut [u8]) -> PartsRead
     requires { ⌜ length (now column) ≡ 16 ⌝ }
     ensures { λ r. ⌜ ReadParts shapeWord (now (text .entry)) r (now (column .exit)) ⌝ }
 {
-    let count = reading::list_in(text, column);
+    let count = textreading::list_in(text, column);
     if 16 < count {
         return unread();
     }
@@ -62,7 +61,7 @@ pub fn class_in(text: &[u8], column: &mut [u8]) -> PartsRead
     requires { ⌜ length (now column) ≡ 16 ⌝ }
     ensures { λ r. ⌜ ReadParts classWord (now (text .entry)) r (now (column .exit)) ⌝ }
 {
-    let count = reading::list_in(text, column);
+    let count = textreading::list_in(text, column);
     if 16 < count {
         return unread();
     }

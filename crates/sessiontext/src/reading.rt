@@ -11,7 +11,6 @@ use super::partitions::ShapeRead;
 use pages::PLAIN;
 use pages::Slip;
 use text::fields;
-use text::reading;
 
 pub struct HeadRead {
     pub fault: usize,
@@ -67,18 +66,18 @@ fn first_fault(
 pub fn head(text: &[u8]) -> HeadRead
     ensures { λ r. ⌜ ReadHead (now (text .entry)) r ⌝ }
 {
-    let shape_at = reading::line_end(text, 0);
-    let class_at = reading::line_end(text, shape_at);
-    let steps_at = reading::line_end(text, class_at);
-    let settled_at = reading::line_end(text, steps_at);
-    let count_at = reading::line_end(text, settled_at);
-    let end = reading::line_end(text, count_at);
+    let shape_at = textreading::line_end(text, 0);
+    let class_at = textreading::line_end(text, shape_at);
+    let steps_at = textreading::line_end(text, class_at);
+    let settled_at = textreading::line_end(text, steps_at);
+    let count_at = textreading::line_end(text, settled_at);
+    let end = textreading::line_end(text, count_at);
     let degree = numbers::number(b"degree=", &text[..shape_at]);
     let shape = partitions::shape(&text[shape_at..class_at]);
     let class = partitions::class(&text[class_at..steps_at]);
     let steps = numbers::steps(&text[steps_at..settled_at]);
     let settled = numbers::settled(&text[settled_at..count_at]);
-    let count = reading::line_count(&text[end..]);
+    let count = textreading::line_count(&text[end..]);
     let counted = counts(&text[count_at..end], count);
     HeadRead {
         fault: first_fault(

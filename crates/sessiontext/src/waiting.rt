@@ -6,7 +6,7 @@ ghost use lib.Seq.{sets};
 ghost use Rattle.theory.specs.Basics.{length, drop, _&&_};
 ghost use Rattle.theory.specs.Basics.Laws.{Each};
 ghost use Rattle.theory.specs.Limits.{degreeLimit};
-ghost use Rattle.text.specs.Reading.{linesOf};
+ghost use Rattle.textreading.specs.Reading.{linesOf};
 ghost use Rattle.pages.specs.Page.{wordOf};
 ghost use Rattle.sessiontext.specs.Reading.{lineIn};
 ghost use Rattle.sessiontext.specs.Reading.Forms.{Waiting};
@@ -18,7 +18,6 @@ use super::straight::LineAt;
 use super::writing;
 use pages::Budget;
 use pages::soundness;
-use text::reading;
 
 // What is read off the text of a waiting line: whether it is formed, and then the line's word.
 pub struct LineRead {
@@ -54,11 +53,11 @@ pub fn both(a: bool, b: bool) -> bool
 pub fn word_in(line: &[u8]) -> LineRead
     ensures { λ r. ⌜ ReadLine (now (line .entry)) r ⌝ }
 {
-    let first = reading::find(59, line, 0);
+    let first = textreading::find(59, line, 0);
     let start = past(first, line);
-    let second = reading::find(59, line, start);
+    let second = textreading::find(59, line, start);
     let last = past(second, line);
-    let minus = reading::find(45, &line[..first], 0) < first;
+    let minus = textreading::find(45, &line[..first], 0) < first;
     let mut rows = [0u8; 16];
     let shape = shape_in(&line[start..second], &mut rows);
     let mut cycles = [0u8; 16];
@@ -98,7 +97,7 @@ fn line_at(text: &[u8], at: usize) -> LineAt
     if read.formed {
         return read;
     }
-    let end = reading::line_end(text, at);
+    let end = textreading::line_end(text, at);
     let line = waiting(&text[at..end]);
     LineAt {
         formed: line.formed,

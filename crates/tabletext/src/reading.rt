@@ -11,7 +11,7 @@ pub const NONE: u32 = 100;
 pub fn asked(input: &[u8]) -> u32
     ensures { λ r. ⌜ r ≡ getD (askedNumbers (now (input .entry))) 0 none ⌝ }
 {
-    let n = text::reading::number_in(input);
+    let n = textreading::number_in(input);
     if 99 < n {
         return NONE;
     }

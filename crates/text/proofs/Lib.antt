@@ -1,5 +1,3 @@
 -- Laws that several proofs use, and the theorems that no second outcome meets a contract.
 mod ListLoops
-mod Newlines
-mod Pieces
 pub mod Unique

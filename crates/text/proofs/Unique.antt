@@ -1,5 +1,5 @@
 -- No second outcome meets a contract. Each theorem is of the contract itself, as Rattle reads it (`Reads.Post`).
-use mathlib.Core.Path.{_≡_, sym, _∙_}
+use mathlib.Core.Path.{_≡_}
 use denote.Ref.{now}
 use Rattle.text.specs.Wrote.Laws.{wrote-once}
 use Rattle.text.proofs.writing.byte.Reads as byte
@@ -12,13 +12,7 @@ use Rattle.text.proofs.fields.number.Reads as number-line
 use Rattle.text.proofs.fields.integer.Reads as integer-line
 use Rattle.text.proofs.fields.list.Reads as list-line
 use Rattle.text.proofs.fields.values.Reads as values-line
-use Rattle.text.proofs.reading.find.Reads as find
-use Rattle.text.proofs.reading.number_in.Reads as number-in
-use Rattle.text.proofs.reading.list_in.Reads as list-in
-use Rattle.text.proofs.reading.line_end.Reads as line-end
-use Rattle.text.proofs.reading.line_count.Reads as line-count
 
--- ---- writing
 pub byte-once : (κs : _) (a : _) (r r′ : _) (s s′ : _) → byte.Post κs a r s → byte.Post κs a r′ s′
     → (r ≡ r′) × (now (s .1 .0) ≡ now (s′ .1 .0))
 byte-once κs a r r′ s s′ p q = wrote-once p q
@@ -58,22 +52,3 @@ list-line-once κs a r r′ s s′ p q = wrote-once p q
 pub values-line-once : (κs : _) (a : _) (r r′ : _) (s s′ : _) → values-line.Post κs a r s → values-line.Post κs a r′ s′
     → (r ≡ r′) × (now (s .1 .1 .0) ≡ now (s′ .1 .1 .0))
 values-line-once κs a r r′ s s′ p q = wrote-once p q
-
--- ---- reading
-pub find-once : (κs : _) (a : _) (r r′ : _) (s s′ : _) → find.Post κs a r s → find.Post κs a r′ s′ → r ≡ r′
-find-once κs a r r′ s s′ p q = p ∙ sym q
-
-pub number-in-once : (κs : _) (a : _) (r r′ : _) (s s′ : _) → number-in.Post κs a r s → number-in.Post κs a r′ s′ → r ≡
-    r′
-number-in-once κs a r r′ s s′ p q = p ∙ sym q
-
-pub list-in-once : (κs : _) (a : _) (r r′ : _) (s s′ : _) → list-in.Post κs a r s → list-in.Post κs a r′ s′
-    → (r ≡ r′) × (now (s .1 .0) ≡ now (s′ .1 .0))
-list-in-once κs a r r′ s s′ p q = wrote-once p q
-
-pub line-end-once : (κs : _) (a : _) (r r′ : _) (s s′ : _) → line-end.Post κs a r s → line-end.Post κs a r′ s′ → r ≡ r′
-line-end-once κs a r r′ s s′ p q = p ∙ sym q
-
-pub line-count-once : (κs : _) (a : _) (r r′ : _) (s s′ : _) → line-count.Post κs a r s → line-count.Post κs a r′ s′
-    → r ≡ r′
-line-count-once κs a r r′ s s′ p q = p ∙ sym q

@@ -13,7 +13,7 @@ use Rattle.pages.specs.Budget.{budgetOf}
 use Rattle.pages.specs.Mode.{plainMode}
 use Rattle.pages.specs.Sound.{soundWith}
 use Rattle.text.specs.Text.{Text}
-use Rattle.text.specs.Reading.{linesOf}
+use Rattle.textreading.specs.Reading.{linesOf}
 use Rattle.sessiontext.specs.Reading.{lineIn, following, fault, slipIn, slipBy, linesIn, linesBy}
 use Rattle.sessiontext.specs.SessionText.{plainForm}
 use Rattle.sessiontext.specs.SessionText.Faithful.Plain.{plain-faithful}

@@ -19,7 +19,7 @@ use Rattle.theory.specs.ClassWord.{classWord}
 use Rattle.theory.specs.Limits.{degreeLimit}
 use Rattle.theory.specs.Refusals.{Check, firstOf}
 use Rattle.text.specs.Text.{Text, ascii}
-use Rattle.text.specs.Reading.{isDigit, numberIn, integerIn, listIn, linesOf, firstLine}
+use Rattle.textreading.specs.Reading.{isDigit, numberIn, integerIn, listIn, linesOf, firstLine}
 use Rattle.sessiontext.specs.declared.numbers.NumberRead.{NumberRead}
 use Rattle.sessiontext.specs.declared.numbers.IntegerRead.{IntegerRead}
 use Rattle.sessiontext.specs.declared.partitions.PartsRead.{PartsRead}

@@ -9,7 +9,7 @@ use Rattle.theory.specs.Basics.{true, List, [], _∷_, _++_, ℕ, _+_, length, 
 use Rattle.theory.specs.Partition.{Parts}
 use Rattle.theory.specs.Limits.{degreeLimit}
 use Rattle.text.specs.Text.{Text, decimal, listText}
-use Rattle.text.specs.Reading.{firstLine}
+use Rattle.textreading.specs.Reading.{firstLine}
 use Rattle.pages.specs.Page.{wordOf}
 use Rattle.sessiontext.specs.declared.straight.PartAt.{PartAt}
 use Rattle.sessiontext.specs.declared.straight.ListAt.{ListAt}

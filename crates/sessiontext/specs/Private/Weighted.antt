@@ -14,7 +14,7 @@ use Rattle.theory.specs.Basics.Laws.{Each}
 use Rattle.theory.specs.Limits.{degreeLimit, pageLimit}
 use Rattle.theory.specs.Refusals.{Check, firstOf}
 use Rattle.text.specs.Text.{Text}
-use Rattle.text.specs.Reading.{linesOf}
+use Rattle.textreading.specs.Reading.{linesOf}
 use Rattle.pages.specs.declared.Slip.{Slip}
 use Rattle.pages.specs.Line.{Line}
 use Rattle.pages.specs.Page.{wordOf}

@@ -16,9 +16,9 @@ use Rattle.theory.specs.ShapeWord.Good.{shape-good}
 use Rattle.theory.specs.ShapeWord.Words.{shape-back}
 use Rattle.theory.specs.ClassWord.{classOf}
 use Rattle.text.specs.Text.{Text, ascii, decimal, integer, listText, textLine, field}
-use Rattle.text.specs.Reading.{linesOf}
-use Rattle.text.specs.Reading.Bytes.{Without, without, each-not, decimal-within, integer-within, list-within}
-use Rattle.text.specs.Reading.Lines.{Line, text-line, lines-joined}
+use Rattle.textreading.specs.Reading.{linesOf}
+use Rattle.textreading.specs.Reading.Bytes.{Without, without, each-not, decimal-within, integer-within, list-within}
+use Rattle.textreading.specs.Reading.Lines.{Line, text-line, lines-joined}
 use Rattle.pages.specs.Line.{Line as Waits}
 use Rattle.pages.specs.declared.Slip.{Slip}
 use Rattle.sessiontext.specs.SessionText.{Form, weightedText, lineTextBy, sessionLinesBy, sessionTextBy}

@@ -14,8 +14,8 @@ use Rattle.theory.specs.ClassWord.{classWord, classOf}
 use Rattle.theory.specs.ClassWord.Laws.{Held, class-of-word, word-good}
 use Rattle.theory.specs.Refusals.Laws.{Within, WithinClass}
 use Rattle.text.specs.Text.{Text}
-use Rattle.text.specs.Reading.{before, linesOf}
-use Rattle.text.specs.Reading.Lines.{lines-whole}
+use Rattle.textreading.specs.Reading.{before, linesOf}
+use Rattle.textreading.specs.Reading.Lines.{lines-whole}
 use Rattle.sessiontext.specs.SessionText.{Form, weightedText, lineTextBy, sessionLinesBy, sessionTextBy}
 use Rattle.sessiontext.specs.SessionText.Faithful.{Faithful}
 use Rattle.sessiontext.specs.SessionText.Storable.{StorableLineBy}

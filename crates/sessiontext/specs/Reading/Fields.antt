@@ -17,11 +17,11 @@ use Rattle.theory.specs.ClassWord.{classWord, classOf}
 use Rattle.theory.specs.ClassWord.Laws.{word-of-class}
 use Rattle.theory.specs.Refusals.Laws.{Within, WithinClass}
 use Rattle.text.specs.Text.{Text, ascii, decimal, integer, listText, textLine, field}
-use Rattle.text.specs.Reading.{isDigit, numberIn, integerIn, before, behind, listIn}
-use Rattle.text.specs.Reading.Bytes.{Without, without, each-not, list-within}
-use Rattle.text.specs.Reading.Bytes.{before-first, behind-first}
-use Rattle.text.specs.Reading.Numbers.{number-back, integer-back}
-use Rattle.text.specs.Reading.Lists.{Mute, Listed as Number>0, list-back}
+use Rattle.textreading.specs.Reading.{isDigit, numberIn, integerIn, before, behind, listIn}
+use Rattle.textreading.specs.Reading.Bytes.{Without, without, each-not, list-within}
+use Rattle.textreading.specs.Reading.Bytes.{before-first, behind-first}
+use Rattle.textreading.specs.Reading.Numbers.{number-back, integer-back}
+use Rattle.textreading.specs.Reading.Lists.{Mute, Listed as Number>0, list-back}
 use Rattle.pages.specs.Line.{Line}
 use Rattle.sessiontext.specs.SessionText.{held, Form, weightedText, lineTextBy}
 use Rattle.sessiontext.specs.SessionText.Faithful.{Faithful}

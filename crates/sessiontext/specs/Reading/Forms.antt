@@ -16,7 +16,7 @@ use Rattle.theory.specs.Partition.{Parts, isPartition, degree}
 use Rattle.theory.specs.Refusals.{Check, firstOf}
 use Rattle.theory.specs.Refusals.Laws.{Numbered, none-applies, both-pass, first-passes}
 use Rattle.text.specs.Text.{Text, ascii, decimal, integer, listText, textLine, field}
-use Rattle.text.specs.Reading.{numberIn, integerIn, listIn, linesOf}
+use Rattle.textreading.specs.Reading.{numberIn, integerIn, listIn, linesOf}
 use Rattle.sessiontext.specs.SessionText.{held, Form, plainForm, gatheredForm, weightedText}
 use Rattle.sessiontext.specs.Reading.{inLimit, isNumber, isInteger, isList, shapeIn, classIn, frontFaults}
 use Rattle.sessiontext.specs.Reading.{weightBy, isWaitingBy, atBy, followingBy, lineFaultsBy, headFaultsBy}

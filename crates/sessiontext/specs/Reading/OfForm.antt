@@ -12,7 +12,7 @@ use Rattle.theory.specs.Basics.{true, not, ℕ, _^_, ℤ, _=?_, every}
 use Rattle.theory.specs.Partition.{Parts}
 use Rattle.theory.specs.Digits.{width}
 use Rattle.text.specs.Text.{Text, ascii, decimal, integer, listText, textLine, field}
-use Rattle.text.specs.Reading.{isDigit, numberIn, integerIn, before, listIn}
+use Rattle.textreading.specs.Reading.{isDigit, numberIn, integerIn, before, listIn}
 use Rattle.sessiontext.specs.SessionText.{held, Form, weightedText}
 use Rattle.sessiontext.specs.SessionText.Faithful.{Faithful}
 use Rattle.sessiontext.specs.Reading.{isNumber, isInteger, isList, shapeIn, classIn, weightBy, isWaitingBy}

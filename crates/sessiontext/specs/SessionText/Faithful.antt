@@ -7,8 +7,8 @@ use Prim.Native.Nat.{_≤_, _<_}
 use Rattle.theory.specs.Basics.{true, _++_, length, ℕ, _^_, ℤ, natAbs, joined}
 use Rattle.theory.specs.Basics.Laws.{Each}
 use Rattle.text.specs.Text.{Text, ascii}
-use Rattle.text.specs.Reading.Bytes.{Within}
-use Rattle.text.specs.Reading.Lines as lines-of-text
+use Rattle.textreading.specs.Reading.Bytes.{Within}
+use Rattle.textreading.specs.Reading.Lines as lines-of-text
 use Rattle.pages.specs.Line.{Line}
 use Rattle.pages.specs.Lawful.{Lawful}
 use Rattle.sessiontext.specs.SessionText.{Form}

@@ -5,7 +5,7 @@ use mir.Facts.{toZ-ofZ}
 use mir.Syntax.{w64}
 use mir.Val.{toZ, ofZ}
 use Rattle.theory.specs.Basics.{_-_, length}
-use Rattle.text.specs.Reading.Lines.{Next, next}
+use Rattle.textreading.specs.Reading.Lines.{Next, next}
 use Rattle.sessiontext.proofs.CoefficientLines.{Down, down-none, down-all, down-room, down-next}
 use borrow.Author.Needs.{needs}
 use Rattle.sessiontext.proofs.coefficients.put.Statement.{statement}

@@ -10,7 +10,7 @@ use Rattle.theory.specs.Basics.Laws.{Each}
 use Rattle.theory.specs.Limits.{degreeLimit, pageLimit}
 use Rattle.theory.specs.Refusals.{firstOf}
 use Rattle.text.specs.Text.{Text}
-use Rattle.text.specs.Reading.{linesOf}
+use Rattle.textreading.specs.Reading.{linesOf}
 use Rattle.pages.specs.declared.Slip.{Slip}
 use Rattle.pages.specs.Mode.{gatheredMode}
 use Rattle.pages.specs.Sound.{soundWith}

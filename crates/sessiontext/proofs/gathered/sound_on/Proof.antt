@@ -2,7 +2,7 @@
 use mathlib.Core.Path.{_≡_, sym}
 use native.Mathlib.Omega.{arith}
 use lib.Seq.{length-take-le}
-use Rattle.text.specs.Reading.{linesOf}
+use Rattle.textreading.specs.Reading.{linesOf}
 use Rattle.sessiontext.proofs.GatheredLoading.{words-fit, weights-fit, judged}
 use borrow.Author.Needs.{needs}
 use Rattle.sessiontext.proofs.gathered.sound_on.Statement.{statement}

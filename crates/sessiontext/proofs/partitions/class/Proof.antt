@@ -5,7 +5,7 @@ use native.Mathlib.Omega.{arith}
 use lib.Seq.{length-take-le}
 use borrow.Author.Tests.{not-true, not-false}
 use Rattle.text.specs.Text.{ascii, listText, field}
-use Rattle.text.specs.Reading.{listIn}
+use Rattle.textreading.specs.Reading.{listIn}
 use Rattle.sessiontext.proofs.Own.{Own, own, own-count}
 use Rattle.sessiontext.proofs.ListLines.{list-unread, list-fits, list-compared}
 use borrow.Author.Needs.{needs}

@@ -3,7 +3,7 @@
 use native.Mathlib.Omega.{arith}
 use borrow.Author.Tests.{not-true, not-false}
 use Rattle.theory.specs.Basics.{_+_, _-_, length}
-use Rattle.text.specs.Reading.Lines.{Next, next}
+use Rattle.textreading.specs.Reading.Lines.{Next, next}
 use Rattle.sessiontext.proofs.AllLines.{Judged, judged-none, judged-all, judged-fault, judged-next}
 use borrow.Author.Needs.{needs}
 use Rattle.sessiontext.proofs.waiting.judge.Statement.{statement}

@@ -1,7 +1,7 @@
 -- `sessiontext::waiting::put` meets its contract: what is left of the text goes behind what is on the page.
 use native.Mathlib.Omega.{arith}
 use Rattle.theory.specs.Basics.{_-_, length}
-use Rattle.text.specs.Reading.Lines.{next}
+use Rattle.textreading.specs.Reading.Lines.{next}
 use Rattle.sessiontext.proofs.AllLines.{Put, put-none, put-all, put-room, put-next}
 use borrow.Author.Needs.{needs}
 use Rattle.sessiontext.proofs.waiting.put.Statement.{statement}

@@ -4,7 +4,7 @@ use lib.Seq.{length-take-le}
 use Rattle.theory.specs.Basics.{_<?_}
 use Rattle.theory.specs.ShapeWord.{shapeWord}
 use Rattle.theory.specs.ClassWord.{classWord}
-use Rattle.text.specs.Reading.{before, behind}
+use Rattle.textreading.specs.Reading.{before, behind}
 use Rattle.sessiontext.specs.Reading.{minusIn}
 use Rattle.sessiontext.specs.Private.Read.{ReadParts}
 use Rattle.sessiontext.proofs.WaitingLines.{Cuts, cuts, sign-read, line-word}

@@ -7,10 +7,10 @@ use Prim.Native.Nat.{_≤_, _<_}
 use Rattle.theory.specs.Basics.{true, [], _++_, ℤ, pos, negsuc, natAbs, _^_, _=?_}
 use Rattle.text.specs.Text.{ascii, integer}
 use Rattle.text.specs.Text.Decimals.{integer-length}
-use Rattle.text.specs.Reading.{isDigit, integerIn}
-use Rattle.text.specs.Reading.Bytes.{each-not, wider, integer-within}
-use Rattle.text.specs.Reading.Numbers.{integer-back}
-use Rattle.text.specs.Reading.Lines.{text-line}
+use Rattle.textreading.specs.Reading.{isDigit, integerIn}
+use Rattle.textreading.specs.Reading.Bytes.{each-not, wider, integer-within}
+use Rattle.textreading.specs.Reading.Numbers.{integer-back}
+use Rattle.textreading.specs.Reading.Lines.{text-line}
 use Rattle.pages.specs.Lawful.Gathered.{gathered-lawful}
 use Rattle.sessiontext.specs.SessionText.{held, gatheredForm}
 use Rattle.sessiontext.specs.SessionText.Faithful.{Faithful}

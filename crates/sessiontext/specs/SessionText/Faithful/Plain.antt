@@ -6,8 +6,8 @@ use lib.Signed.{nonNeg}
 use Rattle.theory.specs.Basics.{Bool, true, false, not, _++_, length, ℤ, zero, suc, pos, negsuc, natAbs, signed}
 use Rattle.theory.specs.Bounds.Laws.{abs-signed}
 use Rattle.text.specs.Text.{ascii}
-use Rattle.text.specs.Reading.{holds}
-use Rattle.text.specs.Reading.Bytes.{Within}
+use Rattle.textreading.specs.Reading.{holds}
+use Rattle.textreading.specs.Reading.Bytes.{Within}
 use Rattle.pages.specs.Lawful.Plain.{plain-lawful}
 use Rattle.sessiontext.specs.SessionText.{signText, plainForm}
 use Rattle.sessiontext.specs.SessionText.Faithful.{Faithful}

@@ -6,9 +6,9 @@ use native.Mathlib.Omega.{arith}
 use Rattle.theory.specs.Basics.{List, [], _∷_, getD, ℕ}
 use Rattle.text.specs.Text.{Text, ascii}
 use Rattle.text.specs.Wrote.{most}
-use Rattle.text.specs.Reading.{isDigit, numberIn}
-use Rattle.text.specs.Reading.Numbers.{number-back}
-use Rattle.text.specs.Reading.Bytes.{each-not}
+use Rattle.textreading.specs.Reading.{isDigit, numberIn}
+use Rattle.textreading.specs.Reading.Numbers.{number-back}
+use Rattle.textreading.specs.Reading.Bytes.{each-not}
 use Rattle.tabletext.specs.Table.{asked}
 use Rattle.tabletext.specs.Table.Asked.{asking, asked-for, one-or-none}
 use Rattle.tabletext.specs.Private.Reading.{none}

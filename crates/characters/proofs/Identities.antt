@@ -16,6 +16,10 @@ use Rattle.theory.specs.ClassWord.Laws.{class-of-word}
 use Rattle.theory.specs.ClassWord.Reading.{degree-told}
 use Rattle.theory.specs.ClassWord.Identity.{ones-held, ones-word}
 use Rattle.theory.specs.Character.{_on_, characterDegree}
+use Rattle.theory.specs.Bounds.Laws.{largestLimit}
+use Rattle.pages.proofs.Signed.{carried}
+use Rattle.characters.specs.Private.Evaluation.{Evaluable}
+use Rattle.characters.proofs.Walks.{shape-within, character-carried}
 
 pub record OnesTold (w z one : ℕ) : Type 0 where
   pub bits : z < 32
@@ -43,9 +47,28 @@ ones-told w some below =
     })
 
 -- ---- the character there is the character degree
-pub on-identity : (s w : ℕ) → (w =? classWord (replicate (degree (classOf w)) 1)) ≡ true → degree (classOf w) ≤ width
+on-identity : (s w : ℕ) → (w =? classWord (replicate (degree (classOf w)) 1)) ≡ true → degree (classOf w) ≤ width
     → degree (shapeOf s) ≡ degree (classOf w) → characterDegree (shapeOf s) ≡ shapeOf s on classOf w
 on-identity s w test room e =
     let n : ℕ = degree (classOf w) in
     let is : classOf w ≡ replicate n 1 = ap classOf (eqb-true w _ test) ∙ class-of-word (ones-held n room) in
     ap (λ (k : ℕ). shapeOf s on replicate k 1) e ∙ ap (λ (cs : Parts). shapeOf s on cs) (sym is)
+
+-- what the quotient is asked, and what it then answers, of a shape word and a class word above degree 4
+module _ {s w : ℕ} (below : w < 2 ^ width) (e : Evaluable largestLimit s (classOf w)) (more : 4 < degree (classOf w)) where
+  pub degree-place : trailingZeros 32 w ≤ 31
+  degree-place = omega (arith, degree-told width w below)
+
+  pub quotient-asked : (s < 2 ^ width) × (31 - trailingZeros 32 w ≡ degree (shapeOf s))
+      × (31 - trailingZeros 32 w ≤ largestLimit)
+  quotient-asked =
+      let told = degree-told width w below in (
+        omega (arith, shape-within e .good .below),
+        omega (arith, told, e .degrees),
+        omega (arith, told, e .small),
+      )
+
+  pub quotient-answers : (w =? classWord (replicate (degree (classOf w)) 1)) ≡ true
+      → carried (characterDegree (shapeOf s)) ≡ shapeOf s on classOf w
+  quotient-answers test =
+      ap carried (on-identity s w test (omega (arith, e .small)) (e .degrees)) ∙ character-carried e

@@ -12,6 +12,7 @@ ghost use Rattle.theory.specs.ClassWord.{classOf};
 ghost use Rattle.theory.specs.Character.{_on_};
 ghost use Rattle.theory.specs.Bounds.Laws.{largestLimit};
 ghost use Rattle.characters.specs.Private.Evaluation.{Evaluable};
+use super::frobenius;
 use super::small_tables;
 use super::walking;
 
@@ -31,6 +32,9 @@ pub fn value(shape: u32, class: u32) -> i64
     if small_tables::small(class) {
         return small_tables::look(shape, class);
     }
+    if frobenius::is_identity(class) {
+        return frobenius::quotient(shape, 31 - u32::trailing_zeros(class));
+    }
     let row = small_tables::last_row(class);
-    walking::value(&row, shape, class)
+    walking::hook_walk(&row, shape, class)
 }

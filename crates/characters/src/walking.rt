@@ -19,7 +19,7 @@ use super::small_tables;
 use super::small_tables::ROW;
 
 // The character of a shape word on a class word of its degree, with the row at hand of the table that it may end in.
-pub fn value(row: &[i64; ROW], shape: u32, class: u32) -> i64
+fn value(row: &[i64; ROW], shape: u32, class: u32) -> i64
     requires { ⌜ (class < 2 ^ width) × Evaluable largestLimit shape (classOf class) ⌝ }
     requires { ⌜ RowOf (now row) (cyclesLeft (classOf class)) ⌝ }
     ensures { λ r. ⌜ r ≡ shapeOf shape on classOf class ⌝ }
@@ -35,7 +35,7 @@ pub fn value(row: &[i64; ROW], shape: u32, class: u32) -> i64
 }
 
 // The same of a degree above 4: the signed sum over the hooks that are as long as the longest cycle.
-fn hook_walk(row: &[i64; ROW], shape: u32, class: u32) -> i64
+pub fn hook_walk(row: &[i64; ROW], shape: u32, class: u32) -> i64
     requires { ⌜ (class < 2 ^ width) × Evaluable largestLimit shape (classOf class) ⌝ }
     requires { ⌜ RowOf (now row) (cyclesLeft (classOf class)) × (tableLimit < degree (classOf class)) ⌝ }
     ensures { λ r. ⌜ r ≡ shapeOf shape on classOf class ⌝ }

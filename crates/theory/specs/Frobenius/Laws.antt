@@ -125,8 +125,7 @@ claim-falls n claimed ls f e =
     size = ap₂ (λ a (b : ℕ). a -ℤ pos (triangle b)) (sum-total ls ∙ ap pos e) (length-map ls pos)
         ∙ +ℤ-negℤ-cancel (pos (suc n)) (pos (triangle (length ls)))
 
-claim : (n : ℕ) (ls : List ℕ) → NoRise ls → total ls ≡ n + triangle (length ls)
-    → counted (replicate n 1) (map pos ls) *ℤ pos (factorials ls) ≡ pos (factorial n) *ℤ spreads (map pos ls)
+claim : (n : ℕ) → Claim n
 unfolding factorial Claim
 claim zero ls w e = go (kind ls w)
   where
@@ -136,9 +135,7 @@ claim zero ls w e = go (kind ls w)
         (ap₂ _*ℤ_ (ground-stair (length ls)) (sym (spreads-stair (length ls))))
 claim (suc n) ls w e = go (kind ls w) (claim n)
   where
-    go : Kind ls → ((ms : List ℕ) → NoRise ms → total ms ≡ n + triangle (length ms)
-        → counted (replicate n 1) (map pos ms) *ℤ pos (factorials ms) ≡ pos (factorial n) *ℤ spreads (map pos ms))
-        → counted (replicate (suc n) 1) (map pos ls) *ℤ pos (factorials ls)
+    go : Kind ls → Claim n → counted (replicate (suc n) 1) (map pos ls) *ℤ pos (factorials ls)
         ≡ pos (factorial (suc n)) *ℤ spreads (map pos ls)
     go (twins t) claimed = claim-twin (suc n) ls t
     go (falls f) claimed = claim-falls n claimed ls f e
@@ -160,6 +157,7 @@ spreads-falls (l ∷ ls) w = rw (product-append (map (l -_) ls) (differences ls)
 -- the claim, in natural numbers
 pub counted-ones : (n : ℕ) (ls : List ℕ) → NoRise ls → total ls ≡ n + triangle (length ls)
     → counted (replicate n 1) (map pos ls) *ℤ pos (factorials ls) ≡ pos (factorial n * product (differences ls))
+unfolding Claim
 counted-ones n ls w e = claim n ls w e ∙ ap (λ z. pos (factorial n) *ℤ z) (spreads-falls ls w)
 
 -- ---- a division that leaves nothing

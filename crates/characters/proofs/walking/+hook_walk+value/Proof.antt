@@ -2,10 +2,10 @@
 -- adds what each hook counts; the value of a smaller word stands in the row, at degree 4 or less, or is Frobenius's
 -- quotient, or another walk.
 -- The measure is twice the degree of the shape, and one more for the value.
-use mathlib.Core.Path.{_≡_, sym, _∙_, ap, subst}
+use mathlib.Core.Path.{sym, _∙_, subst}
 use Prim.Native.Nat.{ℕ, _+_, _-_, _*_, _%_, _^_, _<_, _≤_}
 use native.Mathlib.Omega.{arith}
-use lib.Count.{leadingZeros, trailingZeros}
+use lib.Count.{leadingZeros}
 use lib.IntN.{ℤ}
 use mir.Facts.{toZ-ofZ}
 use mir.Syntax.{w64}
@@ -15,17 +15,14 @@ use borrow.Author.Tests.{leb-true, leb-false}
 use borrow.Fn.Kinds.{In}
 use borrow.Fn.PlainCycle.{Measures, is, falls, and}
 use Rattle.theory.specs.Partition.{degree}
-use Rattle.theory.specs.Digits.{width}
 use Rattle.theory.specs.ShapeWord.{shapeOf}
 use Rattle.theory.specs.ClassWord.{classOf}
-use Rattle.theory.specs.ClassWord.Reading.{degree-told}
 use Rattle.theory.specs.Character.{_on_}
-use Rattle.pages.proofs.Signed.{carried}
 use Rattle.characters.specs.Private.SmallTables.{tableLimit, rowLength, RowOf}
 use Rattle.characters.proofs.HookSums.{Walked, NextHook, word-below, walk-start, walk-next, walk-end}
-use Rattle.characters.proofs.Identities.{on-identity}
+use Rattle.characters.proofs.Identities.{degree-place, quotient-asked, quotient-answers}
 use Rattle.characters.proofs.Walks.{walk as walkable, evaluable-left, degree-falls, hook-rule-holds}
-use Rattle.characters.proofs.Walks.{shape-within, FirstCycle, first-cycle, character-carried}
+use Rattle.characters.proofs.Walks.{FirstCycle, first-cycle, character-carried}
 use Rattle.characters.proofs.SmallTables.{row-entry, row-within}
 use Rattle.characters.proofs.SmallWords.{others, left-small}
 use Rattle.characters.proofs.walking.hook_walk.Reads as walk
@@ -226,26 +223,23 @@ module _ (t : ℕ) where
   is-identity-requires : value-lts.Need-is-identity-requires value-calls value-at value.Post
   is-identity-requires c κs = (omega (arith, more c), c .before .before .pre .1 .0 .0)
 
-  told : (c : value-lts.Else1 value-calls value-at value.Post)
-      → let a = c .before .before .args in degree (classOf (a .class)) ≡ 31 - trailingZeros 32 (a .class)
-  told c = degree-told width _ (c .before .before .pre .1 .0 .0)
-
   sub-quotient : value-lts.Need-sub-quotient value-calls value-at value.Post
-  sub-quotient c = omega (arith, told (c .before .before), more (c .before .before))
+  sub-quotient c =
+      let p = c .before .before .before .before .pre .1 .0 in
+      degree-place (p .0) (p .1) (more (c .before .before))
 
   quotient-requires : value-lts.Need-quotient-requires value-calls value-at value.Post
   quotient-requires c κs =
-      let e = c .before .before .before .before .pre .1 .0 .1 in
-      let t = told (c .before .before) in
-      (omega (arith, shape-within e .good .below), omega (arith, t, e .degrees), omega (arith, t, e .small))
+      let p = c .before .before .before .before .pre .1 .0 in
+      quotient-asked (p .0) (p .1) (more (c .before .before))
 
   returns-2 : value-lts.Need-returns-2 value-calls value-at value.Post
   returns-2 c =
       let tested = c .before .before in
-      let e = tested .before .before .before .pre .1 .0 .1 in
+      let p = tested .before .before .before .pre .1 .0 in
       rw (c .quotient .ensures)
-      (ap carried (on-identity _ _ (sym (tested .is-identity .ensures) ∙ c .before .if2 .taken)
-      (omega (arith, e .small)) (e .degrees)) ∙ character-carried e)
+      (quotient-answers (p .0) (p .1) (more (tested .before))
+      (sym (tested .is-identity .ensures) ∙ c .before .if2 .taken))
 
   walk-requires : value-lts.Need-hook-walk-requires value-calls value-at value.Post
   walk-requires c κs =

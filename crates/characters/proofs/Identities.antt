@@ -55,7 +55,8 @@ on-identity s w test room e =
     ap (λ (k : ℕ). shapeOf s on replicate k 1) e ∙ ap (λ (cs : Parts). shapeOf s on cs) (sym is)
 
 -- what the quotient is asked, and what it then answers, of a shape word and a class word above degree 4
-module _ {s w : ℕ} (below : w < 2 ^ width) (e : Evaluable largestLimit s (classOf w)) (more : 4 < degree (classOf w)) where
+module _ {s w : ℕ} (below : w < 2 ^ width) (e : Evaluable largestLimit s (classOf w))
+    (more : 4 < degree (classOf w)) where
   pub degree-place : trailingZeros 32 w ≤ 31
   degree-place = omega (arith, degree-told width w below)
 

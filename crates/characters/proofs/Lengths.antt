@@ -116,7 +116,8 @@ module _ (s : ℕ) (small : degree (shapeOf s) ≤ largestLimit) where
         let rest : ℕ = hookPowers (suc (suc h)) (n - suc h) s in
         let comes : lengths * power * rest ≡ hookPowers 1 n s =
         mul-assoc lengths power rest ∙ rw more at (d .comes) in
-        let within = le-mul-of-pos-right (lengths * power) (powers-positive (suc (suc h)) (n - suc h) s (omega arith)) in
+        let positive = powers-positive (suc (suc h)) (n - suc h) s (omega arith) in
+        let within = le-mul-of-pos-right (lengths * power) positive in
         let next : so-far * suc h ≡ factorial (suc h) = rw (d .factor) (mul-comm (factorial h) (suc h)) in
         let fits = factorial-fits n small in
         rw up

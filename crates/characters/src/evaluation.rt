@@ -1,7 +1,7 @@
-// The character of a shape word on a class word (document 01, "The character"; document 02, P4 and P10): it is looked up
-// in a table if the degree is 4 or less, and else found by its hooks and, on (1^n), by Frobenius's quotient. The cycles
-// are struck in one order, so all walks of an evaluation that end in a table end in one class: its row is taken out of
-// the table before, and lent.
+// The character of a shape word on a class word (document 01, "The character"; document 02, P4 and P10): it is looked
+// up in a table if the degree is 4 or less, it is Frobenius's quotient on (1^n), and else it is found by its hooks. The
+// cycles are struck in one order, so all walks of an evaluation that end in a table end in one class: its row is taken
+// out of the table before, and lent.
 ghost use mathlib.Core.Path.{_≡_};
 ghost use Prim.Native.Nat.{_+_, _<_, _^_};
 ghost use lib.IntN.{_+ℤ_, natAbs};

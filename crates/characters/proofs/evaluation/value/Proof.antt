@@ -44,7 +44,8 @@ returns-2 c =
     let tested = c .before .before in
     let p = tested .before .before .before .pre in
     rw (c .quotient .ensures)
-    (quotient-answers (p .0) (p .1) (more (tested .before)) (sym (tested .is-identity .ensures) ∙ c .before .if2 .taken))
+    (quotient-answers (p .0) (p .1) (more (tested .before))
+    (sym (tested .is-identity .ensures) ∙ c .before .if2 .taken))
 
 last-row-requires : tie.Need-last-row-requires
 last-row-requires c κs = search needs
@@ -56,7 +57,9 @@ hook-walk-requires c κs =
     (start .pre, (c .before .last-row .ensures, more (tested .before .before)))
 
 returns-3 : tie.Need-returns-3
-returns-3 c = rw (c .hook-walk .ensures) (character-carried (c .before .before .before .before .before .before .before .pre .1))
+returns-3 c =
+    let start = c .before .before .before .before .before .before .before in
+    rw (c .hook-walk .ensures) (character-carried (start .pre .1))
 
 pub value-spec : {M : Type 1} → statement M
 value-spec =

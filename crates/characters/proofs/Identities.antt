@@ -1,4 +1,6 @@
--- The class word of (1^n) is known by its last one: put there once more, it carries through all the ones before it.
+-- The class word of (1^n) is known by its last one: added once more, it carries through all the ones before it. On that
+-- class the quotient is the character.
+--   OnesTold w z one   z zeros are behind the last one of the class word w, which counts `one`: it tells whether w is so
 use mathlib.Core.Path.{_≡_, sym, _∙_, ap}
 use Prim.Native.Nat.{_≤_, _<_}
 use native.Mathlib.Decide.{ℕ-discrete}
@@ -19,6 +21,7 @@ use Rattle.theory.specs.Character.{_on_, characterDegree}
 use Rattle.theory.specs.Bounds.Laws.{largestLimit}
 use Rattle.pages.proofs.Signed.{carried}
 use Rattle.characters.specs.Private.Evaluation.{Evaluable}
+use Rattle.characters.specs.Private.SmallTables.{tableLimit}
 use Rattle.characters.proofs.Walks.{shape-within, character-carried}
 
 pub record OnesTold (w z one : ℕ) : Type 0 where
@@ -54,9 +57,9 @@ on-identity s w test room e =
     let is : classOf w ≡ replicate n 1 = ap classOf (eqb-true w _ test) ∙ class-of-word (ones-held n room) in
     ap (λ (k : ℕ). shapeOf s on replicate k 1) e ∙ ap (λ (cs : Parts). shapeOf s on cs) (sym is)
 
--- what the quotient is asked, and what it then answers, of a shape word and a class word above degree 4
+-- what the quotient is asked, and what it then answers, of a shape word and a class word that have no table
 module _ {s w : ℕ} (below : w < 2 ^ width) (e : Evaluable largestLimit s (classOf w))
-    (more : 4 < degree (classOf w)) where
+    (more : tableLimit < degree (classOf w)) where
   pub degree-place : trailingZeros 32 w ≤ 31
   degree-place = omega (arith, degree-told width w below)
 

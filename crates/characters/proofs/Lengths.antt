@@ -1,7 +1,10 @@
 -- The lengths of the hooks of a word are multiplied one by one. What is left over has no 0 among its factors, so that
 -- no product on the way is above the whole one, which divides n!.
---   Multiplied whole h left all     the product `all` and h for each place of the marks `left` are the whole
---   Next whole h left all z one     the next of these: the highest mark counts `one`
+--   Multiplied whole h left all       the product `all` and h for each place of the marks `left` are the whole
+--   Next whole h left all z one       the next of these: the highest mark counts `one`
+--   Divides s so-far lengths h        so far h!, and the lengths up to h of the hooks of the word s
+--   NextLength s so-far lengths h     the same with a further length h
+--   Quotient s so-far lengths         n! and all lengths: divided, they are the character degree
 use mathlib.Core.Path.{_≡_, refl, sym, _∙_, ap}
 use Prim.Native.Nat.{_≤_, _<_}
 use native.Mathlib.Nat.{pos-of-ne-zero, mul-pos, mul-one, one-mul, pow-suc, pow-zero, mul-assoc, mul-comm}
@@ -16,15 +19,15 @@ use Rattle.theory.specs.ShapeWord.{shapeOf}
 use Rattle.theory.specs.Bounds.{factorial}
 use Rattle.theory.specs.Bounds.Laws.{factorial-rises, largestLimit}
 use Rattle.theory.specs.Character.{characterDegree}
+use Rattle.theory.specs.Hooks.{hookWords}
 use Rattle.theory.specs.Hooks.Degrees.{degree-positive, degree-bounded}
+use Rattle.theory.specs.Hooks.Marks.{marks, places}
+use Rattle.theory.specs.Hooks.Marks.Laws.{hooks-marked}
+use Rattle.theory.specs.Hooks.Marks.Walk.{highest, places-none}
 use Rattle.theory.specs.Frobenius.HookLengths.{hookPowers, hook-lengths}
 use Rattle.theory.specs.Refusals.Laws.{Within}
 use Rattle.words.proofs.Factorials.{factorial-fits}
 use Rattle.pages.proofs.Signed.{carried, carried-is}
-use Rattle.theory.specs.Hooks.{hookWords}
-use Rattle.theory.specs.Hooks.Marks.{marks, places}
-use Rattle.theory.specs.Hooks.Marks.Laws.{hooks-marked}
-use Rattle.theory.specs.Hooks.Marks.Walk.{highest, places-none}
 
 -- ---- the hooks of one length
 pub record Multiplied (whole h left all : ℕ) : Type 0 where

@@ -1,6 +1,6 @@
 -- The class word of (1^n) is known by its last one: added once more, it carries through all the ones before it. On that
 -- class the quotient is the character.
---   OnesTold w z one   z zeros are behind the last one of the class word w, which counts `one`: it tells whether w is so
+--   OnesTold w z one   z zeros are behind the last one of the class word w, and it counts `one`: it tells if w is such
 use mathlib.Core.Path.{_≡_, sym, _∙_, ap}
 use Prim.Native.Nat.{_≤_, _<_}
 use native.Mathlib.Decide.{ℕ-discrete}

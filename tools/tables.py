@@ -1,6 +1,6 @@
 #!/usr/bin/env python3
 """tables.py: writes the tables of the listing, crates/listing/src/tables.rt, and the displacements that give shape
-words their places, crates/characters/src/tables.rt and specs/Private/Displacements.antt. Run it in the repository, then
+words their places, crates/classcolumns/src/tables.rt and specs/Private/Displacements.antt. Run it in the repository, then
 `rt fmt`. What it writes is not believed: the functions that read a table say its rule, and are proved."""
 
 LIMIT = 16
@@ -59,14 +59,14 @@ with open('crates/listing/src/tables.rt', 'w') as file:
     file.write(table('The shape words, degree by degree, each degree in listing order.', 'WORDS', 'u32', words,
                      'super::WORD_COUNT'))
 
-with open('crates/characters/src/tables.rt', 'w') as file:
+with open('crates/classcolumns/src/tables.rt', 'w') as file:
     file.write('// Made by tools/tables.py; lookup.rt says what the table has, and is proved.\n')
     file.write(number('Eight digits make numbers below it.', 'EIGHT_DIGITS', EIGHT_DIGITS))
     file.write(number('Places are below it.', 'PLACE_COUNT', max(displacements) + EIGHT_DIGITS))
     file.write(table('A shape word t has the place DISPLACEMENTS[t >> 22] + (t >> 14) % EIGHT_DIGITS: no two have one.',
                      'DISPLACEMENTS', 'u16', displacements, 'EIGHT_DIGITS'))
 
-with open('crates/characters/specs/Private/Displacements.antt', 'w') as file:
+with open('crates/classcolumns/specs/Private/Displacements.antt', 'w') as file:
     rows = [' ∷ '.join(map(str, displacements[i:i + 16])) for i in range(0, EIGHT_DIGITS, 16)]
     file.write('-- Made by tools/tables.py: the displacements that give the shape words their places (Places.antt).\n')
     file.write('--   displacementTable     one for each number of eight digits\n')

@@ -1,10 +1,10 @@
 #!/usr/bin/env python3
 """values.py: reckons values by a model of its own, and has the checker compute the definitions and compare.
 
-The definitions are those of the specs of `theory`, `words`, `listing`, `linewords`, `pages`, `characters` and
-`sessiontext`. The model, which shares nothing with them, is model.py, gathering.py for the gathered mode, and texts.py
-for the text of a session. Each equation is a list of expressions over the definitions and the list of their values,
-proved by computation alone (`refl`).
+The definitions are those of the specs of `theory`, `words`, `listing`, `oldlists`, `pairs`, `linewords`, `pages`,
+`sessions`, `characters`, `classcolumns` and `sessiontext`. The model, which shares nothing with them, is model.py,
+gathering.py for the gathered mode, and texts.py for the text of a session. Each equation is a list of expressions over
+the definitions and the list of their values, proved by computation alone (`refl`).
 
 A copy of the crates is made in a temporary folder, with crates beside them that have the equations, and `rt` proves
 these; what the repository has proved already is not proved again. Then some values of each notion are changed at
@@ -45,8 +45,9 @@ from model import (  # noqa: E402
 from texts import (  # noqa: E402
     LEAST, MOST, by_hand, bytes_of, damaged, gathered_by_hand, loaded, put_away, saved, taken_up)
 
-CRATES = ['theory', 'text', 'textreading', 'words', 'listing', 'linewords', 'pages', 'characters', 'sessiontext']
-NO_SPECS = ['clearing']  # what some of them rest on, and that defines nothing
+CRATES = ['theory', 'text', 'textreading', 'words', 'listing', 'oldlists', 'pairs', 'linewords', 'pages', 'sessions',
+          'characters', 'classcolumns', 'sessiontext']
+NO_SPECS = ['clearing', 'hooks']  # what some of them rest on, and that defines nothing
 LIBRARIES = ['check', 'io']  # what some of them rest on
 
 
@@ -1093,10 +1094,10 @@ CONSTRUCTORS = {
     'Rattle.theory.specs.Hooks': ['Hook'],
     'Rattle.theory.specs.ClassData.Periods': ['periodFrom'],  # of a file of laws, which `definitions` passes over
     'Rattle.words.specs.declared.CountAnswer': ['CountAnswer'],
-    'Rattle.words.specs.declared.ListAnswer': ['ListAnswer'],
+    'Rattle.oldlists.specs.declared.ListAnswer': ['ListAnswer'],
     'Rattle.pages.specs.declared.Slip': ['Slip'],
     'Rattle.pages.specs.Line': ['Line'],
-    'Rattle.characters.specs.declared.Handed': ['Handed'],
+    'Rattle.sessions.specs.declared.Handed': ['Handed'],
     'Rattle.sessiontext.specs.declared.Loaded': ['Loaded'],
     'Rattle.characters.specs.Watch': ['Value', 'whole', 'quotient', 'none'],
     'lib.Ieee': ['Float', 'fin'],

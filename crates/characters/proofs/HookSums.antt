@@ -5,15 +5,16 @@
 --   whole, share                d! and (d - h)!
 --   Walk                        what a walk goes by: no value is above d! in size at a word of degree d
 --   Walked left so-far          a walk, the marks `left` still to come
---   NextHook left so-far z one  the next hook of it: the highest mark is at place 31 - z and counts `one`
-use mathlib.Core.Path.{_≡_, sym, _∙_}
+--   NextHook left so-far z one  the next hook of it, by its stretch: the highest mark is at place 31 - z, and counts
+--                               `one`
+use mathlib.Core.Path.{_≡_, sym, _∙_, ap, subst}
 use Prim.Native.Nat.{_≤_, _<_}
 use native.Mathlib.Nat.{pos-of-ne-zero, zero-add}
 use native.Mathlib.Omega.{arith}
 use lib.Count.{leadingZeros}
 use lib.IntN.{+ℤ-idl, +ℤ-idr, +ℤ-assoc}
 use lib.ListN.{length-map}
-use Rattle.theory.specs.Basics.{length, ℕ, _+_, _-_, _*_, _%_, _^_, ℤ, pos, _+ℤ_, natAbs, sum, signed}
+use Rattle.theory.specs.Basics.{Bool, length, ℕ, _+_, _-_, _*_, _%_, _^_, ℤ, pos, _+ℤ_, natAbs, sum, signed}
 use Rattle.theory.specs.Basics.Laws.{Each}
 use Rattle.theory.specs.Partition.{degree}
 use Rattle.theory.specs.Digits.{width}
@@ -24,6 +25,7 @@ use Rattle.theory.specs.Hooks.Bounds.{step-factorial}
 use Rattle.theory.specs.Hooks.Marks.{marks, places, markedHook}
 use Rattle.theory.specs.Hooks.Marks.Laws.{hooks-marked}
 use Rattle.theory.specs.Hooks.Marks.Walk.{Begun, highest, places-none, marks-begin, sum-marked}
+use Rattle.theory.specs.Hooks.Marks.Stretch.{stretch, zerosOdd, raised, hookBy, hook-stretched}
 use Rattle.theory.specs.Bounds.{factorial}
 use Rattle.theory.specs.Bounds.Laws.{abs-add, abs-signed, largestLimit}
 use Rattle.theory.specs.Refusals.Laws.{Within}
@@ -55,14 +57,14 @@ module _ (value : ℕ → ℤ) (s h : ℕ) where
 
   pub record NextHook (left : ℕ) (so-far : ℤ) (z one : ℕ) : Type 0 where
     pub within : z ≤ 31
-    pub from : h ≤ 31 - z
     pub below : 31 - z < 31
-    pub left-good : Left h s (markedHook h s (31 - z))
-    pub room : natAbs so-far + natAbs (carried (value (markedHook h s (31 - z) .leaves))) < 2 ^ 63
     pub some : 0 < one
     pub takes : one ≤ left
-    pub walked : Walked (left - one) (carried (so-far
-        +ℤ signed (markedHook h s (31 - z) .minus) (carried (value (markedHook h s (31 - z) .leaves)))))
+    pub left-good : Left h s (hookBy s (stretch one h))
+    pub room : natAbs so-far + natAbs (carried (value (raised s (stretch one h)))) < 2 ^ 63
+    pub walked : (minus : Bool) (number total : ℤ) → minus ≡ zerosOdd s (stretch one h)
+        → number ≡ value (raised s (stretch one h)) → total ≡ so-far +ℤ signed minus (carried number)
+        → Walked (left - one) (carried total)
 
   module _ (walk : Walk) where
     -- the word has no more digits than a class word
@@ -101,15 +103,22 @@ module _ (value : ℕ → ℤ) (s h : ℕ) where
           let grows = abs-add so-far (counts b) in
           let size = abs-signed (markedHook h s b .minus) number in
           let fits = factorial-fits (degree (shapeOf s)) (walk .within .small) in
+          let same = hook-stretched h s b (begun .from) (begun .below) word-below in
           record {
             within = top .within;
-            from = begun .from;
             below = begun .below;
-            left-good = begun .left;
-            room = rw (carried-is number (omega arith)) (omega arith);
             some = top .some;
             takes = top .takes;
-            walked = rw (carried-is number (omega arith), carried-is (so-far +ℤ counts b) (omega arith))
+            left-good = subst (Left h s) (sym same) (begun .left);
+            room = rw (ap (λ (hook : Hook ℕ). hook .leaves) same, carried-is number (omega arith)) (omega arith);
+            walked = λ minus n total m v t.
+                rw (
+                  t,
+                  m ∙ ap (λ (hook : Hook ℕ). hook .minus) same,
+                  v ∙ ap (λ (hook : Hook ℕ). value (hook .leaves)) same,
+                  carried-is number (omega arith),
+                  carried-is (so-far +ℤ counts b) (omega arith),
+                )
                 (record {
                   below = omega (arith, w .below);
                   begun = rest;

@@ -11,7 +11,6 @@ ghost use Rattle.theory.specs.ClassWord.{classOf, classWord};
 ghost use Rattle.theory.specs.Character.{characterDegree};
 ghost use Rattle.theory.specs.Hooks.{hookWords};
 ghost use Rattle.theory.specs.Bounds.Laws.{largestLimit};
-use super::hooks;
 
 // Whether a class word is that of (1^n): its last one, added once more, carries through all ones before it. The word is
 // below 2^31, and its last one is no more than the word.

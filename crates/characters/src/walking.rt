@@ -14,7 +14,6 @@ ghost use Rattle.characters.specs.Private.Evaluation.{Evaluable};
 ghost use Rattle.characters.specs.Private.SmallTables.{tableLimit, RowOf, cyclesLeft};
 use super::evaluation;
 use super::frobenius;
-use super::hooks;
 use super::small_tables;
 use super::small_tables::ROW;
 
@@ -45,10 +44,11 @@ pub fn hook_walk(row: &[i64; ROW], shape: u32, class: u32) -> i64
     let mut left = hooks::marks(shape, cycle);
     let mut sum = 0i64;
     while left != 0 {
-        let place = 31 - u32::leading_zeros(left);
-        let number = value(row, hooks::leaves(shape, cycle, place), rest);
-        sum = evaluation::add_signed(sum, hooks::minus_in_place(shape, cycle, place), number);
-        left -= 1u32 << place;
+        let zero = 1u32 << (31 - u32::leading_zeros(left));
+        let stretch = hooks::stretch(zero, cycle);
+        left -= zero;
+        let number = value(row, hooks::leaves(shape, stretch), rest);
+        sum = evaluation::add_signed(sum, hooks::minus(shape, stretch), number);
     }
     sum
 }

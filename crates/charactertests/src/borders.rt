@@ -79,7 +79,7 @@ pub fn shapes() -> Tally {
 // A class word alone: the number that refuses it, even for an empty column, and 0, or 14 for that column, and its rank.
 fn class(t: Tally, word: u32, refused: u8, rank: i64) -> Tally {
     let mut none = [0i64; 0];
-    let column = characters::column(word, &mut none);
+    let column = classcolumns::column(word, &mut none);
     let ranked = listing::class_rank(word);
     let first = if refused == 0 { 14 } else { refused };
     t.add((column.refused == first) & (column.count == 0))

@@ -44,7 +44,7 @@ fn short_stays(class: u32, count: usize) -> bool
     let mut values = [MARK; listing::MOST_PARTITIONS];
     let room = count - 1;
     let short = &mut values[..room];
-    let column = characters::column(class, short);
+    let column = classcolumns::column(class, short);
     (column.refused == 14) & (column.count == 0) & all_within(short, MARK, MARK)
 }
 
@@ -67,7 +67,7 @@ fn meet(found: Columns, class: u32, count: usize) -> Columns
     requires { ⌜ (1 ≤ count) × (count ≤ mostPartitions) ⌝ }
 {
     let mut values = [MARK; listing::MOST_PARTITIONS];
-    let column = characters::column(class, &mut values);
+    let column = classcolumns::column(class, &mut values);
     let stays = all_within(&values[count..], MARK, MARK);
     let mut f = entries(found, class, &values[..count]);
     f.counts = f.counts

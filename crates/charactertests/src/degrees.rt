@@ -28,7 +28,7 @@ pub fn of_degree(found: Degrees, degree: u32, count: u32) -> Degrees
 {
     let class = listing::class_at(degree, count - 1);
     let mut values = [0i64; listing::MOST_PARTITIONS];
-    characters::column(class.word, &mut values);
+    classcolumns::column(class.word, &mut values);
     let mut f = found;
     let mut largest = 0i64;
     let mut rank = 0u32;

@@ -26,7 +26,7 @@ fn columns(degree: u32) -> [i64; ENTRIES] {
         }
         let at = rank as usize * listing::MOST_PARTITIONS;
         let end = at + listing::MOST_PARTITIONS;
-        characters::column(class.word, &mut table[at..end]);
+        classcolumns::column(class.word, &mut table[at..end]);
         rank += 1;
     }
     table

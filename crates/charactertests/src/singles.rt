@@ -14,7 +14,7 @@ fn of_class(t: Tally, degree: u32, count: u32, class: u32) -> Tally
     requires { ⌜ count ≤ mostPartitions ⌝ }
 {
     let mut values = [0i64; listing::MOST_PARTITIONS];
-    characters::column(class, &mut values);
+    classcolumns::column(class, &mut values);
     let mut t = t;
     let mut rank = 0u32;
     while rank < count {

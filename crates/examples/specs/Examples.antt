@@ -15,9 +15,9 @@ use Rattle.words.specs.declared.CountAnswer.{CountAnswer}
 use Rattle.words.specs.Answers.{countAnswer, goodAnswer}
 use Rattle.words.specs.Calls.{goodShapeWord}
 use Rattle.pages.specs.Page.{slipOf}
-use Rattle.characters.specs.declared.Handed.{Handed}
-use Rattle.characters.specs.Opening.{handed, opening}
-use Rattle.characters.specs.Step.{preview, commit}
+use Rattle.sessions.specs.declared.Handed.{Handed}
+use Rattle.sessions.specs.Opening.{handed, opening}
+use Rattle.sessions.specs.Step.{preview, commit}
 pub mod Proved
 
 abbrev on-sevens : List ℕ → List ℕ → Handed × List ℕ

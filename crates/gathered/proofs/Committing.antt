@@ -34,11 +34,11 @@ use Rattle.pages.specs.Sound.{lineValue, pageChecksIn}
 use Rattle.pages.specs.Sound.Laws.{SoundLine, SoundIn, line-wider, asked, values}
 use Rattle.pages.specs.Sound.Bounds.{weight-counted, asked-within}
 use Rattle.pages.proofs.Signed.{carried, carried-is}
-use Rattle.characters.specs.declared.Handed.{Handed}
-use Rattle.characters.specs.Opening.{handed}
-use Rattle.characters.specs.Step.{settledHooks, waitingHooks, nextLinesIn, nextSlipIn, commitChecksIn, commitIn}
-use Rattle.characters.specs.Step.Gathered.{unlike-waiting}
-use Rattle.characters.specs.Step.Named.{Named, settled-room}
+use Rattle.sessions.specs.declared.Handed.{Handed}
+use Rattle.sessions.specs.Opening.{handed}
+use Rattle.sessions.specs.Step.{settledHooks, waitingHooks, nextLinesIn, nextSlipIn, commitChecksIn, commitIn}
+use Rattle.sessions.specs.Step.Gathered.{unlike-waiting}
+use Rattle.sessions.specs.Step.Named.{Named, settled-room}
 use Rattle.gathered.specs.declared.commits.Struck.{Struck}
 use Rattle.gathered.specs.declared.joining.Joined.{Joined}
 use Rattle.gathered.specs.Private.Joining.{Small, nextOf, joinedAnswer, Joinable, joinedOnto}

@@ -31,8 +31,8 @@ use Rattle.pages.specs.Mode.{unit, wordsOf, weightsOf}
 use Rattle.pages.specs.Gathering.{alike, lasting, distinct}
 use Rattle.pages.specs.Gathering.Different.{Unlike, one-more, different-none, different-keep}
 use Rattle.pages.specs.Sound.Laws.{SoundLine}
-use Rattle.characters.specs.Step.{empty, settledHooks, waitingHooks}
-use Rattle.characters.specs.Step.Strike.{cycle-positive}
+use Rattle.sessions.specs.Step.{empty, settledHooks, waitingHooks}
+use Rattle.sessions.specs.Step.Strike.{cycle-positive}
 use Rattle.gathered.specs.Private.Striking.{cleared, turned}
 
 -- ---- by their hooks

@@ -17,9 +17,9 @@ use Rattle.pages.specs.Line.{Line}
 use Rattle.pages.specs.declared.Slip.{Slip}
 use Rattle.pages.specs.Page.{slipOf, blank, padded}
 use Rattle.pages.specs.Mode.{unit, gatheredMode}
-use Rattle.characters.specs.declared.Handed.{Handed}
-use Rattle.characters.specs.Opening.{handed, firstLines, firstSettled, openingIn, opening}
-use Rattle.characters.specs.Opening.Laws.{opening-refused, words-pass}
+use Rattle.sessions.specs.declared.Handed.{Handed}
+use Rattle.sessions.specs.Opening.{handed, firstLines, firstSettled, openingIn, opening}
+use Rattle.sessions.specs.Opening.Laws.{opening-refused, words-pass}
 use Rattle.gathered.proofs.Filled.{first-column}
 
 abbrev pub of-mode : ℕ → Slip → Slip

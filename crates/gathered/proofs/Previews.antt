@@ -17,7 +17,7 @@ use Rattle.pages.specs.Page.{wordOf, lineAt}
 use Rattle.pages.specs.Mode.{weighted, gatheredMode, waitingIn}
 use Rattle.pages.specs.Sound.{pageChecksIn, pageChecks}
 use Rattle.pages.specs.Sound.Laws.{SoundLine}
-use Rattle.characters.specs.Step.{waitingHooks, newLinesIn, previewIn, preview, newLines}
+use Rattle.sessions.specs.Step.{waitingHooks, newLinesIn, previewIn, preview, newLines}
 use Rattle.gathered.specs.Private.Alone.{alone}
 use Rattle.gathered.proofs.Alone.{paged, alone-passes}
 use Rattle.gathered.proofs.Reading.{wordAt, coefficientAt, passed, line-read, line-sound, own-read}

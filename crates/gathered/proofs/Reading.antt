@@ -20,7 +20,7 @@ use Rattle.pages.specs.Sound.Laws.{SoundLine, line-wider, asked, SoundIn}
 use Rattle.pages.specs.Sound.Bounds.{asked-within}
 use Rattle.pages.specs.Lawful.Checks.{passed-page}
 use Rattle.pages.specs.Lawful.Gathered.{as-long, length-alongside, alongside-at, gathered-lawful}
-use Rattle.characters.proofs.Watches.{waiting-fits}
+use Rattle.characters.proofs.WatchLaws.{waiting-fits}
 use Rattle.gathered.proofs.Alone.{own-line}
 use Rattle.gathered.proofs.LineSizes.{value-within}
 

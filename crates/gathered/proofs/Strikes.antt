@@ -39,13 +39,13 @@ use Rattle.pages.specs.Sound.{lineValue, pageChecks}
 use Rattle.pages.specs.Sound.Laws.{SoundLine}
 use Rattle.pages.proofs.Signed.{carried, carried-is}
 use Rattle.characters.proofs.LineValues.{word-value}
-use Rattle.characters.specs.declared.Handed.{Handed}
-use Rattle.characters.specs.Opening.{handed}
-use Rattle.characters.specs.Step.{settledHooks, waitingHooks, nextLinesIn, nextSlipIn, commitIn}
-use Rattle.characters.specs.Step.{nextLines, nextSlip, commitChecks, commit}
-use Rattle.characters.specs.Step.Strike.{each-waiting, strike-value}
-use Rattle.characters.specs.Step.Laws.{NamedOn, named-on}
-use Rattle.characters.specs.Step.Previews.{few-new}
+use Rattle.sessions.specs.declared.Handed.{Handed}
+use Rattle.sessions.specs.Opening.{handed}
+use Rattle.sessions.specs.Step.{settledHooks, waitingHooks, nextLinesIn, nextSlipIn, commitIn}
+use Rattle.sessions.specs.Step.{nextLines, nextSlip, commitChecks, commit}
+use Rattle.sessions.specs.Step.Strike.{each-waiting, strike-value}
+use Rattle.sessions.specs.Step.Laws.{NamedOn, named-on}
+use Rattle.sessions.specs.Step.Previews.{few-new}
 use Rattle.gathered.specs.declared.commits.Struck.{Struck}
 use Rattle.gathered.specs.Private.Alone.{alone}
 use Rattle.gathered.specs.Private.Striking.{cleared, turned, struckChecks, Strikes}

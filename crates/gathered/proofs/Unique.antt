@@ -5,8 +5,8 @@ use Rattle.theory.specs.Basics.{List, ℕ, ℤ}
 use Rattle.theory.specs.Limits.{degreeLimit}
 use Rattle.words.specs.Answers.Laws.{one-outcome}
 use Rattle.pages.specs.Mode.{gatheredMode}
-use Rattle.characters.specs.Opening.{openingIn}
-use Rattle.characters.specs.Step.{previewIn, commitIn}
+use Rattle.sessions.specs.Opening.{openingIn}
+use Rattle.sessions.specs.Step.{previewIn, commitIn}
 use Rattle.characters.specs.Watch.Answers.{one-answer}
 use Rattle.gathered.proofs.open.Reads as open-session
 use Rattle.gathered.proofs.preview.Reads as preview-session

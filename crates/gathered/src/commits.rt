@@ -13,14 +13,13 @@ ghost use Rattle.pages.specs.Page.{slipOf};
 ghost use Rattle.pages.specs.Mode.{weighted, gatheredMode};
 ghost use Rattle.pages.specs.Sound.{lineValue, pageChecksIn};
 ghost use Rattle.pages.specs.Sound.Laws.{SoundLine};
-ghost use Rattle.characters.specs.Step.{commitIn};
+ghost use Rattle.sessions.specs.Step.{commitIn};
 ghost use Rattle.gathered.specs.Private.Striking.{cleared, turned, Strikes};
 use super::joining;
 use super::numbers;
 use super::own;
-use characters::Handed;
-use characters::sessions;
 use pages::Slip;
+use sessions::Handed;
 
 // What comes of a line that is struck: why cycle or strip are refused, or how many of its hook lines wait, and the sum
 // of the weights of the others.

@@ -7,18 +7,17 @@ ghost use Rattle.theory.specs.Limits.{degreeLimit};
 ghost use Rattle.words.specs.Answers.{Outcome};
 ghost use Rattle.pages.specs.Page.{blank};
 ghost use Rattle.pages.specs.Mode.{gatheredMode};
-ghost use Rattle.characters.specs.Opening.{handed, openingIn};
-ghost use Rattle.characters.specs.Step.{previewIn, commitIn};
+ghost use Rattle.sessions.specs.Opening.{handed, openingIn};
+ghost use Rattle.sessions.specs.Step.{previewIn, commitIn};
 ghost use Rattle.characters.specs.Watch.{reads, watchChecksIn, watchIn};
-use characters::Handed;
 use characters::Watched;
-use characters::sessions;
+use characters::watches;
 use pages::BLANK;
 use pages::GATHERED;
 use pages::PAGE_LIMIT;
 use pages::Slip;
 use pages::gathering;
-use pages::pairs;
+use sessions::Handed;
 use words::CountAnswer;
 
 mod columns;
@@ -120,7 +119,7 @@ fn watch_refusal(slip: Slip, page: &[u64], coefficients: &[i64], kind: u64, line
     if refused != 0 {
         return refused;
     }
-    sessions::kind_refusal(kind, slip.lines, line)
+    watches::kind_refusal(kind, slip.lines, line)
 }
 
 // What a kind shows: 1 a line's coefficient times its character, 2 its ratio, without the coefficient, 3 the settled

@@ -8,7 +8,7 @@ ghost use Rattle.pages.specs.Sound.Laws.{SoundLine};
 ghost use Rattle.characters.specs.Watch.{quotient, reads, ratio as ratioOf};
 ghost use Rattle.gathered.specs.Private.Alone.{alone as aloneOf};
 use characters::Watched;
-use characters::sessions;
+use characters::watches;
 use pages::PLAIN;
 use pages::Slip;
 
@@ -32,5 +32,5 @@ pub fn ratio(line: u64) -> Watched
     ensures { λ r. ⌜ reads r ≡ (0, quotient (ratioOf (lineOf line))) ⌝ }
 {
     let page = [line];
-    sessions::watch(alone(line), &page, 2, 0)
+    watches::watch(alone(line), &page, 2, 0)
 }

@@ -1,5 +1,4 @@
 pub mod Signed
-pub mod WordPairs
 pub mod WordDegrees
 pub mod SoundLines
 pub mod SpanTable

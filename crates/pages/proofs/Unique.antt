@@ -1,15 +1,9 @@
 -- No second outcome meets a contract. Each theorem is of the contract itself, as Rattle reads it (`Reads.Post`).
 use mathlib.Core.Path.{_≡_, sym, _∙_}
-use Rattle.pages.proofs.pairs.common_degree.Reads as common-degree
 use Rattle.pages.proofs.soundness.budget.Reads as budget
 use Rattle.pages.proofs.soundness.spend.Reads as spend
 use Rattle.pages.proofs.soundness.refusal.Reads as refusal
 use Rattle.pages.proofs.gathering.refusal.Reads as gathered-refusal
-
--- ---- pairs
-pub common-degree-once : (κs : _) (a : _) (r r′ : _) (s s′ : _) → common-degree.Post κs a r s
-    → common-degree.Post κs a r′ s′ → r ≡ r′
-common-degree-once κs a r r′ s s′ p q = p ∙ sym q
 
 -- ---- soundness
 pub budget-once : (κs : _) (a : _) (r r′ : _) (s s′ : _) → budget.Post κs a r s → budget.Post κs a r′ s′ → r ≡ r′

@@ -1,6 +1,5 @@
 -- What a slip, a page and the lines on it are, and when they are sound: each file says which paragraph of document 01
 -- it states.
-pub mod Pairs
 pub mod Line
 pub mod Gathering
 pub mod Page

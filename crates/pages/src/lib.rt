@@ -1,11 +1,9 @@
 // Slips, pages and waiting lines (document 01, "Slip and page", "Sound slip and page"): how a page's word is read and
-// written, what a shape word and a class word have in common, and whether slip and page are sound, in either mode.
-// Every call takes every input.
+// written, and whether slip and page are sound, in either mode. Every call takes every input.
 
 mod degrees;
 mod differences;
 pub mod gathering;
-pub mod pairs;
 mod paying;
 pub mod soundness;
 

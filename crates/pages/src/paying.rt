@@ -9,7 +9,6 @@ ghost use Rattle.pages.specs.Private.Degrees.{mostDegree};
 ghost use Rattle.pages.specs.Private.Tables.{Tabled};
 use super::Budget;
 use super::Slip;
-use super::pairs;
 use words::SHAPE_WORDS;
 
 // S(d), the most steps that a line of degree d can take, for the degrees 0 to 16.

@@ -23,10 +23,10 @@ use Rattle.words.specs.declared.CountAnswer.{CountAnswer}
 use Rattle.words.specs.Answers.{Outcome}
 use Rattle.text.specs.Text.{Text}
 use Rattle.pages.specs.declared.Slip.{Slip}
-use Rattle.characters.specs.declared.Handed.{Handed}
+use Rattle.sessions.specs.declared.Handed.{Handed}
 use Rattle.characters.specs.declared.Watched.{Watched}
-use Rattle.characters.specs.Opening.{openingIn}
-use Rattle.characters.specs.Step.{previewIn, commitIn}
+use Rattle.sessions.specs.Opening.{openingIn}
+use Rattle.sessions.specs.Step.{previewIn, commitIn}
 use Rattle.characters.specs.Watch.{reads, watchIn}
 use Rattle.sessiontext.specs.declared.Loaded.{Loaded}
 use Rattle.sessiontext.specs.SessionText.{Form}

@@ -7,9 +7,8 @@ use super::comparing::same_slip;
 use super::drawing::PAGE;
 use super::drawing::asked;
 use super::drawing::in_front;
-use characters::Handed;
-use characters::sessions;
 use pages::Slip;
+use sessions::Handed;
 use testing::numbers;
 
 // A call's outcome: the run's slip after it, the refusal number, and what was wrong with it (0: nothing).

@@ -3,7 +3,6 @@ use super::drawing::PAGE;
 use super::drawing::Strike;
 use super::hooks::New;
 use characters::Watched;
-use characters::sessions;
 use pages::Slip;
 use testing::numbers;
 
@@ -68,7 +67,7 @@ pub struct Shown {
 
 // The whole number that a watch shows; where it shows none, one larger than any sum of characters.
 fn number(slip: Slip, page: &[u64], kind: u64) -> i64 {
-    match sessions::watch(slip, page, kind, 0) {
+    match characters::watches::watch(slip, page, kind, 0) {
         Watched::Whole(number) => number,
         Watched::Ratio(_) => 0x1000_0000_0000_0000,
         Watched::Refused(_) => 0x1000_0000_0000_0000,

@@ -7,7 +7,6 @@ use super::texts::WORD;
 use super::texts::just_fits;
 use super::texts::marked;
 use super::texts::marked_words;
-use characters::sessions;
 use words::CountAnswer;
 
 // No word: degree 0 opens with settled 1, and (1) on (1) is refused.

@@ -4,9 +4,8 @@ ghost use Prim.Native.Nat.{_≤_};
 use super::comparing::Shown;
 use super::comparing::watches;
 use super::drawing::Strike;
-use characters::Handed;
-use characters::sessions;
 use pages::Slip;
+use sessions::Handed;
 use sessiontext::Loaded;
 use words::CountAnswer;
 

@@ -31,7 +31,7 @@ use Rattle.words.specs.Calls.{classPartsInto, sizeOfClass}
 use Rattle.words.proofs.Factorials.{factorial-fits}
 use Rattle.words.proofs.Callers.{FrontGiven, front-given}
 use Rattle.listing.specs.Calls.{classAt}
-use Rattle.characters.specs.Calls.{columnInto}
+use Rattle.classcolumns.specs.Calls.{columnInto}
 
 module _ (limit : ℕ) (fits : limit ≤ largestLimit) (n r : ℕ) (small : n ≤ limit) (within : r < length (listing n)) where
   abbrev class : Parts

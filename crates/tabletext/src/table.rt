@@ -38,7 +38,7 @@ fn class(degree: u32, rank: u32, out: &mut [u8], at: usize) -> usize
     let written = words::classes::parts(class.word, &mut parts);
     let size = words::classes::size(class.word);
     let mut values = [0i64; listing::MOST_PARTITIONS];
-    let column = characters::column(class.word, &mut values);
+    let column = classcolumns::column(class.word, &mut values);
     let count = written.count;
     let length = column.count;
     lines(

@@ -5,7 +5,6 @@ pub mod Readings
 pub mod Factorials
 pub mod PartLists
 pub mod Columns
-pub mod MovedLists
 pub mod ClassLoops
 pub mod ClassProducts
 pub mod ClassWriting

@@ -3,7 +3,7 @@ use mathlib.Core.Path.{_≡_, sym, _∙_}
 use denote.Ref.{now}
 use Rattle.theory.specs.Limits.{degreeLimit}
 use Rattle.words.specs.Answers.Laws.{one-outcome}
-use Rattle.words.specs.Calls.{shapePartsInto, shapesFromOld, shapesToOld, classPartsInto}
+use Rattle.words.specs.Calls.{shapePartsInto, classPartsInto}
 use Rattle.words.specs.Calls.Laws.{one-period-told}
 use Rattle.words.proofs.shapes.word.Reads as shape-word
 use Rattle.words.proofs.shapes.read.Reads as shape-reading
@@ -11,8 +11,6 @@ use Rattle.words.proofs.shapes.good.Reads as good-shape
 use Rattle.words.proofs.shapes.parts.Reads as shape-parts
 use Rattle.words.proofs.shapes.degree.Reads as shape-degree
 use Rattle.words.proofs.shapes.conjugate.Reads as conjugate
-use Rattle.words.proofs.shapes.from_old.Reads as shapes-from-old
-use Rattle.words.proofs.shapes.to_old.Reads as shapes-to-old
 use Rattle.words.proofs.classes.word.Reads as class-word
 use Rattle.words.proofs.classes.parts.Reads as class-parts
 use Rattle.words.proofs.classes.degree.Reads as class-degree
@@ -44,15 +42,6 @@ shape-degree-once κs a r r′ s s′ p q = p ∙ sym q
 pub conjugate-once : (κs : _) (a : _) (r r′ : _) (s s′ : _) → conjugate.Post κs a r s → conjugate.Post κs a r′ s′
     → r ≡ r′
 conjugate-once κs a r r′ s s′ p q = p ∙ sym q
-
-pub shapes-from-old-once : (κs : _) (a : _) (r r′ : _) (s s′ : _) → shapes-from-old.Post κs a r s
-    → shapes-from-old.Post κs a r′ s′ → (r ≡ r′) × (now (s .1 .0) ≡ now (s′ .1 .0))
-shapes-from-old-once κs a r r′ s s′ p q =
-    one-outcome (shapesFromOld degreeLimit (now (a .0)) (now (a .1 .0))) p q
-
-pub shapes-to-old-once : (κs : _) (a : _) (r r′ : _) (s s′ : _) → shapes-to-old.Post κs a r s
-    → shapes-to-old.Post κs a r′ s′ → (r ≡ r′) × (now (s .1 .0) ≡ now (s′ .1 .0))
-shapes-to-old-once κs a r r′ s s′ p q = one-outcome (shapesToOld degreeLimit (now (a .0)) (now (a .1 .0))) p q
 
 -- ---- classes
 pub class-word-once : (κs : _) (a : _) (r r′ : _) (s s′ : _) → class-word.Post κs a r s → class-word.Post κs a r′ s′

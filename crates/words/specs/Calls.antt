@@ -1,17 +1,14 @@
 -- What the calls on one partition promise (document 01, "Words", "The character", second paragraph, "Order"; document
--- 02, P2 and P6), and those on lists of shapes (document 02, P5).
+-- 02, P2 and P6).
 -- Each has the name of what it gives; `Into` writes to the front of a lent column. The limit on degrees comes first.
 --   shapeReading w           what the one reader of shape words finds: the good word, the ones dropped, the degree
 --   PeriodOfClass w answer   the answer gives the period of the class of the word w, or refuses
-use Rattle.theory.specs.Basics.{List, ℕ, pos}
+use Rattle.theory.specs.Basics.{ℕ, pos}
 use Rattle.theory.specs.Partition.{Parts, degree}
 use Rattle.theory.specs.ShapeWord.{shapeWord, shapeOf, conjugateWord, goodWord, dropped}
 use Rattle.theory.specs.ClassWord.{classWord, classOf}
 use Rattle.theory.specs.ClassData.{classSign, classSize, Period}
-use Rattle.theory.specs.Refusals.{firstOf, refusedOr, shapeChecks, goodShapeChecks, classChecks, shapeListChecks}
-use Rattle.theory.specs.Refusals.{classListChecks, no-14}
-use Rattle.theory.specs.OldForm.{newWord, oldWord}
-use Rattle.words.specs.Lists.{ListAnswer, moved}
+use Rattle.theory.specs.Refusals.{firstOf, refusedOr, shapeChecks, classChecks, shapeListChecks, classListChecks, no-14}
 use Rattle.words.specs.Answers.{worded, numbered, NumberedBy, written, WordAnswer, NumberAnswer, CountAnswer}
 use Rattle.words.specs.Answers.{goodAnswer, reading, GoodAnswer, ShapeReading}
 pub mod Laws
@@ -38,13 +35,6 @@ module _ (limit : ℕ) where
 
   unfoldable pub conjugateShape : ℕ → WordAnswer
   conjugateShape w = worded (shapeChecks limit w) (conjugateWord w)
-
-  -- ---- lists of shapes, in the old form and in the new
-  unfoldable pub shapesFromOld : List ℕ → List ℕ → ListAnswer × List ℕ
-  shapesFromOld old new = moved (classChecks limit) newWord old new
-
-  unfoldable pub shapesToOld : List ℕ → List ℕ → ListAnswer × List ℕ
-  shapesToOld new old = moved (goodShapeChecks limit) oldWord new old
 
   -- ---- classes
   unfoldable pub classWordFrom : Parts → WordAnswer

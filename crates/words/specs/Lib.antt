@@ -1,5 +1,4 @@
--- What the calls on one partition promise, and those on lists of shapes.
+-- What the calls on one partition promise.
 pub mod Answers
-pub mod Lists
 pub mod Calls
 pub mod Private

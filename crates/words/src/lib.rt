@@ -1,6 +1,5 @@
-// Partitions as words of 32 bits: part lists and words turned into each other by Comét's two methods, what a word
-// tells, and lists of shapes moved from one method to the other. Every call takes every input; a refused word or number
-// is 0, and a refused call writes nothing.
+// Partitions as words of 32 bits: part lists and words turned into each other by Comét's two methods, and what a word
+// tells. Every call takes every input; a refused word or number is 0, and a refused call writes nothing.
 
 ghost use mathlib.Core.Path.{_≡_};
 ghost use Prim.Native.Nat.{_<_, _^_};
@@ -9,7 +8,6 @@ ghost use Rattle.words.specs.Answers.{numberAnswer};
 ghost use Rattle.words.specs.Private.Reading.{countWithin};
 
 pub mod classes;
-mod forms;
 mod lists;
 pub mod shapes;
 
@@ -45,12 +43,6 @@ pub struct CountAnswer {
     pub count: usize,
 }
 
-// What refuses a list of words, 0 for nothing, and the index of the first bad word, from 0; 0 where no word is bad.
-pub struct ListAnswer {
-    pub refused: u8,
-    pub index: usize,
-}
-
 // What is told of the parts of a word: why it is refused, or its degree and how many parts it has.
 struct Measure {
     refused: u8,
@@ -63,9 +55,6 @@ pub const LIMIT: u32 = 16;
 
 // Good shape words are the numbers below this.
 pub const SHAPE_WORDS: u32 = 0x4000_0000;
-
-// The most words of a list of shapes.
-pub const LIST_LIMIT: usize = 4096;
 
 // How many degrees there are.
 pub const DEGREES: usize = LIMIT as usize + 1;

@@ -1,5 +1,4 @@
-// Shape words (document 01, "Shape word" and "Conjugate"; document 02, P6: ones in front are dropped), and lists of
-// them (document 02, P5), which keep good words.
+// Shape words (document 01, "Shape word" and "Conjugate"; document 02, P6: ones in front are dropped).
 ghost use mathlib.Core.Path.{_≡_};
 ghost use Prim.Native.Nat.{_<_, _≤_, _^_};
 ghost use Rattle.theory.specs.Basics.{length};
@@ -11,17 +10,15 @@ ghost use Rattle.theory.specs.Refusals.{shapeChecks};
 ghost use Rattle.words.specs.Answers.{Outcome, atFront, reading};
 ghost use Rattle.words.specs.Private.Reading.{measured, ListWithin};
 ghost use Rattle.words.specs.Calls.{shapeWordFrom, shapeReading, goodShapeWord, shapePartsInto, shapeDegree};
-ghost use Rattle.words.specs.Calls.{conjugateShape, shapesFromOld, shapesToOld};
+ghost use Rattle.words.specs.Calls.{conjugateShape};
 use super::CountAnswer;
 use super::GoodAnswer;
 use super::LIMIT;
-use super::ListAnswer;
 use super::Measure;
 use super::NumberAnswer;
 use super::ShapeReading;
 use super::WordAnswer;
 use super::count_within;
-use super::forms;
 use super::given;
 use super::lists;
 use super::refused;
@@ -241,19 +238,4 @@ pub fn conjugate(word: u32) -> WordAnswer
         refused: 0,
         word: flipped(shape.word),
     }
-}
-
-// The good words of shapes that are packed by the first method, as classes are, entry by entry. Refuses 20, then with
-// the index of the first bad entry 3 or 4; a refused list writes nothing.
-pub fn from_old(old: &[u32], new: &mut [u32]) -> ListAnswer
-    ensures { λ r. ⌜ Outcome (shapesFromOld degreeLimit (now (old .entry)) (now (new .entry))) r (now (new .exit)) ⌝ }
-{
-    forms::moved(old, new, true)
-}
-
-// And back. Refuses 20, then with the index of the first bad entry 1, where it is 2^30 or more, or 2.
-pub fn to_old(new: &[u32], old: &mut [u32]) -> ListAnswer
-    ensures { λ r. ⌜ Outcome (shapesToOld degreeLimit (now (new .entry)) (now (old .entry))) r (now (old .exit)) ⌝ }
-{
-    forms::moved(new, old, false)
 }

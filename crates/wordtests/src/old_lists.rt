@@ -1,9 +1,9 @@
 // Lists of shapes in the old form, as classes are packed, and in the new: all partitions there and back, and every
 // refusal at its border. The kind is that of the words given: a class's are moved from the old form, a shape's to it.
 use super::columns::Kind;
+use oldlists::LIST_LIMIT;
+use oldlists::ListAnswer;
 use testing::Tally;
-use words::LIST_LIMIT;
-use words::ListAnswer;
 
 // The longest run that is tried, one word more than a list may have.
 const MOST: usize = LIST_LIMIT + 1;
@@ -13,8 +13,8 @@ const LENT: u32 = 0xA5A5_A5A5;
 
 fn moved(kind: Kind, given: &[u32], lent: &mut [u32]) -> ListAnswer {
     match kind {
-        Kind::Shape => words::shapes::to_old(given, lent),
-        Kind::Class => words::shapes::from_old(given, lent),
+        Kind::Shape => oldlists::to_old(given, lent),
+        Kind::Class => oldlists::from_old(given, lent),
     }
 }
 

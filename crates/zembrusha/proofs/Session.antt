@@ -11,12 +11,12 @@ use Rattle.zembrusha.specs.declared.Slip.{Slip}
 use Rattle.zembrusha.specs.Exports.{given}
 use Rattle.zembrusha.specs.Session.{Call, opened, previewed, committed, watched-whole, watched-ratio}
 use Rattle.zembrusha.specs.Session.{watched-refusal, saved, loaded, theirNext, Run, Session}
-use Rattle.zembrusha.proofs.sessions.zembrusha_open.Reads as open-export
-use Rattle.zembrusha.proofs.sessions.zembrusha_preview.Reads as preview-export
-use Rattle.zembrusha.proofs.sessions.zembrusha_commit.Reads as commit-export
-use Rattle.zembrusha.proofs.sessions.zembrusha_watch_whole.Reads as whole-export
-use Rattle.zembrusha.proofs.sessions.zembrusha_watch_ratio.Reads as ratio-export
-use Rattle.zembrusha.proofs.sessions.zembrusha_watch_refusal.Reads as refusal-export
+use Rattle.zembrusha.proofs.plain.zembrusha_open.Reads as open-export
+use Rattle.zembrusha.proofs.plain.zembrusha_preview.Reads as preview-export
+use Rattle.zembrusha.proofs.plain.zembrusha_commit.Reads as commit-export
+use Rattle.zembrusha.proofs.plain.zembrusha_watch_whole.Reads as whole-export
+use Rattle.zembrusha.proofs.plain.zembrusha_watch_ratio.Reads as ratio-export
+use Rattle.zembrusha.proofs.plain.zembrusha_watch_refusal.Reads as refusal-export
 use Rattle.zembrusha.proofs.gatherings.zembrusha_gathered_open.Reads as gathered-open-export
 use Rattle.zembrusha.proofs.gatherings.zembrusha_gathered_preview.Reads as gathered-preview-export
 use Rattle.zembrusha.proofs.gatherings.zembrusha_gathered_commit.Reads as gathered-commit-export

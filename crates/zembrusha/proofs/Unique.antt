@@ -5,12 +5,13 @@ use Rattle.theory.specs.Basics.{List, ℕ, ℤ}
 use Rattle.theory.specs.Limits.{degreeLimit}
 use Rattle.words.specs.Answers.Laws.{one-outcome}
 use Rattle.words.specs.declared.NumberAnswer.{NumberAnswer}
-use Rattle.words.specs.Calls.{shapePartsInto, classPartsInto, shapesFromOld, shapesToOld}
+use Rattle.words.specs.Calls.{shapePartsInto, classPartsInto}
 use Rattle.words.specs.Calls.Laws.{one-period-told}
-use Rattle.characters.specs.Calls.{columnInto}
+use Rattle.oldlists.specs.Calls.{shapesFromOld, shapesToOld}
+use Rattle.classcolumns.specs.Calls.{columnInto}
 use Rattle.pages.specs.Mode.{gatheredMode}
-use Rattle.characters.specs.Opening.{openingIn, opening}
-use Rattle.characters.specs.Step.{previewIn, commitIn, preview, commit}
+use Rattle.sessions.specs.Opening.{openingIn, opening}
+use Rattle.sessions.specs.Step.{previewIn, commitIn, preview, commit}
 use Rattle.sessiontext.specs.SessionText.{gatheredForm}
 use Rattle.sessiontext.specs.Calls.{saveBy, loadBy, saveInto, loadInto}
 use Rattle.zembrusha.specs.Exports.{counted, listed, given, handedRun, loadedRun}
@@ -36,12 +37,12 @@ use Rattle.zembrusha.proofs.runs.zembrusha_class_parts.Reads as class-p
 use Rattle.zembrusha.proofs.runs.zembrusha_shapes_from_old.Reads as shapes-from-old
 use Rattle.zembrusha.proofs.runs.zembrusha_shapes_to_old.Reads as shapes-to-old
 use Rattle.zembrusha.proofs.runs.zembrusha_column.Reads as column
-use Rattle.zembrusha.proofs.sessions.zembrusha_open.Reads as opened
-use Rattle.zembrusha.proofs.sessions.zembrusha_preview.Reads as previewed
-use Rattle.zembrusha.proofs.sessions.zembrusha_commit.Reads as committed
-use Rattle.zembrusha.proofs.sessions.zembrusha_watch_whole.Reads as watch-whole
-use Rattle.zembrusha.proofs.sessions.zembrusha_watch_ratio.Reads as watch-ratio
-use Rattle.zembrusha.proofs.sessions.zembrusha_watch_refusal.Reads as watch-refusal
+use Rattle.zembrusha.proofs.plain.zembrusha_open.Reads as opened
+use Rattle.zembrusha.proofs.plain.zembrusha_preview.Reads as previewed
+use Rattle.zembrusha.proofs.plain.zembrusha_commit.Reads as committed
+use Rattle.zembrusha.proofs.plain.zembrusha_watch_whole.Reads as watch-whole
+use Rattle.zembrusha.proofs.plain.zembrusha_watch_ratio.Reads as watch-ratio
+use Rattle.zembrusha.proofs.plain.zembrusha_watch_refusal.Reads as watch-refusal
 use Rattle.zembrusha.proofs.gatherings.zembrusha_gathered_open.Reads as gathered-opened
 use Rattle.zembrusha.proofs.gatherings.zembrusha_gathered_preview.Reads as gathered-previewed
 use Rattle.zembrusha.proofs.gatherings.zembrusha_gathered_commit.Reads as gathered-committed

@@ -14,11 +14,11 @@ use lib.Ieee.{Float, binary64, ofBits}
 use Rattle.theory.specs.Basics.{List, ℕ, ℤ, pos}
 use Rattle.words.specs.declared.CountAnswer.{CountAnswer}
 use Rattle.words.specs.declared.GoodAnswer.{GoodAnswer}
-use Rattle.words.specs.declared.ListAnswer.{ListAnswer}
 use Rattle.words.specs.declared.NumberAnswer.{NumberAnswer}
 use Rattle.words.specs.declared.WordAnswer.{WordAnswer}
+use Rattle.oldlists.specs.declared.ListAnswer.{ListAnswer}
 use Rattle.pages.specs.declared.Slip as calculator
-use Rattle.characters.specs.declared.Handed as calculator-handed
+use Rattle.sessions.specs.declared.Handed as calculator-handed
 use Rattle.sessiontext.specs.declared.Loaded as calculator-loaded
 use Rattle.characters.specs.Watch.{Value, whole, quotient, none}
 use Rattle.zembrusha.specs.declared.Number.{Number}

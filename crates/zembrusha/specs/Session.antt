@@ -19,9 +19,9 @@ use Rattle.words.specs.declared.CountAnswer.{CountAnswer}
 use Rattle.words.specs.Answers.{Outcome}
 use Rattle.text.specs.Text.{Text}
 use Rattle.pages.specs.declared.Slip as calculator-slip
-use Rattle.characters.specs.declared.Handed as calculator-handed
-use Rattle.characters.specs.Opening.{openingIn}
-use Rattle.characters.specs.Step.{previewIn, commitIn}
+use Rattle.sessions.specs.declared.Handed as calculator-handed
+use Rattle.sessions.specs.Opening.{openingIn}
+use Rattle.sessions.specs.Step.{previewIn, commitIn}
 use Rattle.characters.specs.Watch.{watchIn}
 use Rattle.characters.specs.Watch.Answers.{said}
 use Rattle.sessiontext.specs.declared.Loaded as calculator-loaded

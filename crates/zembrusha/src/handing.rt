@@ -39,7 +39,7 @@ pub fn of_good(answer: words::GoodAnswer) -> Good
     }
 }
 
-pub fn of_list(answer: words::ListAnswer) -> Listed
+pub fn of_list(answer: oldlists::ListAnswer) -> Listed
     ensures { λ r. ⌜ r ≡ ofList answer ⌝ }
 {
     Listed {

@@ -3,8 +3,8 @@
 
 pub mod gatherings;
 mod handing;
+pub mod plain;
 pub mod runs;
-pub mod sessions;
 pub mod singles;
 pub mod texts;
 

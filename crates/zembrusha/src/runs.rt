@@ -4,8 +4,8 @@ ghost use mathlib.Core.Path.{_≡_};
 ghost use Rattle.theory.specs.Limits.{degreeLimit};
 ghost use Rattle.words.specs.Answers.{Outcome};
 ghost use Rattle.words.specs.Calls.{shapeWordFrom, classWordFrom, shapePartsInto, classPartsInto};
-ghost use Rattle.words.specs.Calls.{shapesFromOld, shapesToOld};
-ghost use Rattle.characters.specs.Calls.{columnInto};
+ghost use Rattle.oldlists.specs.Calls.{shapesFromOld, shapesToOld};
+ghost use Rattle.classcolumns.specs.Calls.{columnInto};
 ghost use Rattle.zembrusha.specs.Exports.{ofWord, counted, listed};
 use super::Listed;
 use super::Number;
@@ -51,7 +51,7 @@ pub extern "C" fn zembrusha_shapes_from_old(old: &[u32], new: &mut [u32]) -> Lis
     ensures { λ r. ⌜ Outcome (listed (shapesFromOld degreeLimit (now (old .entry)) (now (new .entry))))
         r (now (new .exit)) ⌝ }
 {
-    handing::of_list(words::shapes::from_old(old, new))
+    handing::of_list(oldlists::from_old(old, new))
 }
 
 // And back.
@@ -60,7 +60,7 @@ pub extern "C" fn zembrusha_shapes_to_old(new: &[u32], old: &mut [u32]) -> Liste
     ensures { λ r. ⌜ Outcome (listed (shapesToOld degreeLimit (now (new .entry)) (now (old .entry))))
         r (now (old .exit)) ⌝ }
 {
-    handing::of_list(words::shapes::to_old(new, old))
+    handing::of_list(oldlists::to_old(new, old))
 }
 
 // The values of a class for all shapes, in listing order, to the front of a column; their count.
@@ -68,5 +68,5 @@ pub extern "C" fn zembrusha_shapes_to_old(new: &[u32], old: &mut [u32]) -> Liste
 pub extern "C" fn zembrusha_column(class: u32, values: &mut [i64]) -> Number
     ensures { λ r. ⌜ Outcome (counted (columnInto degreeLimit class (now (values .entry)))) r (now (values .exit)) ⌝ }
 {
-    handing::of_count(characters::column(class, values))
+    handing::of_count(classcolumns::column(class, values))
 }

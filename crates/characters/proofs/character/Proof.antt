@@ -8,7 +8,7 @@ use Rattle.theory.specs.Character.{_on_}
 use Rattle.theory.specs.Refusals.{pairChecks}
 use Rattle.theory.specs.Limits.{degreeLimit}
 use Rattle.words.proofs.Answers.{number-refused, number-given}
-use Rattle.pages.proofs.WordPairs.{Pair, pair-refused, pair-passed}
+use Rattle.pairs.proofs.WordPairs.{Pair, pair-refused, pair-passed}
 use Rattle.characters.specs.Calls.{characterOf}
 use Rattle.characters.proofs.Evaluables.{pair-evaluable}
 use Rattle.characters.proofs.Walks.{widened, character-carried}

@@ -7,8 +7,8 @@ use Rattle.theory.specs.Bounds.{factorial, S}
 use Rattle.words.specs.Calls.{goodShapeWord}
 use Rattle.pages.specs.Line.{hookLines}
 use Rattle.pages.specs.Sound.{soundLine, soundLines, soundIn}
-use Rattle.characters.specs.Opening.{openingIn}
-use Rattle.characters.specs.Step.{nextLinesIn, nextSlipIn, previewIn, commitIn}
+use Rattle.sessions.specs.Opening.{openingIn}
+use Rattle.sessions.specs.Step.{nextLinesIn, nextSlipIn, previewIn, commitIn}
 use Rattle.examples.specs.Examples.{Examples}
 
 pub examples : Examples

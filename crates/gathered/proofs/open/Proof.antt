@@ -2,9 +2,9 @@
 -- leaves, with the first column beside it.
 use borrow.Author.Needs.{needs}
 use Rattle.theory.specs.Limits.{degreeLimit}
-use Rattle.pages.proofs.WordPairs.{Pair, pair-refused, pair-passed}
+use Rattle.pairs.proofs.WordPairs.{Pair, pair-refused, pair-passed}
 use Rattle.pages.specs.Mode.{gatheredMode}
-use Rattle.characters.specs.Opening.Laws.{words-refuse}
+use Rattle.sessions.specs.Opening.Laws.{words-refuse}
 use Rattle.gathered.proofs.Openings.{page-refuses, column-refuses, room-refuses}
 use Rattle.gathered.proofs.Openings.{column-begins, line-opens}
 use Rattle.gathered.proofs.open.Statement.{statement}

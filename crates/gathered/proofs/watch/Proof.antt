@@ -17,8 +17,8 @@ use Rattle.pages.specs.Sound.Laws.{SoundLine}
 use Rattle.pages.specs.Lawful.Gathered.{gathered-lawful}
 use Rattle.pages.proofs.Signed.{carried}
 use Rattle.characters.specs.Watch.{whole, quotient, ratio, shownIn}
-use Rattle.characters.proofs.Watches.{watch-refused, Watching, watching, shows-by, waiting-fits, waiting-carried}
-use Rattle.characters.proofs.Watches.{last-kind}
+use Rattle.characters.proofs.WatchLaws.{watch-refused, Watching, watching, shows-by, waiting-fits, waiting-carried}
+use Rattle.characters.proofs.WatchLaws.{last-kind}
 use Rattle.pages.specs.Gathering.Sound.{sound-weighing}
 use Rattle.gathered.proofs.Reading.{wordAt, coefficientAt, Passed, lent-passed, front-words, front-column}
 use Rattle.gathered.proofs.Reading.{lines-within, line-read, line-sound, own-read, line-room}

@@ -3,7 +3,7 @@ use mathlib.Core.Path.{_≡_, sym, _∙_}
 use borrow.Author.Needs.{needs}
 use Rattle.theory.specs.Limits.{degreeLimit}
 use Rattle.pages.specs.Lawful.Gathered.{gathered-lawful}
-use Rattle.characters.proofs.Watches.{page-first, kind-first}
+use Rattle.characters.proofs.WatchLaws.{page-first, kind-first}
 use Rattle.gathered.proofs.watch_refusal.Statement.{statement}
 use Rattle.gathered.proofs.watch_refusal.Tie as tie
 

@@ -14,7 +14,7 @@ use Rattle.pages.specs.Line.{Line}
 use Rattle.pages.specs.Line.Weights.{weightOf}
 use Rattle.pages.specs.Page.{wordOf}
 use Rattle.pages.specs.Mode.{alongside, unit}
-use Rattle.characters.specs.Step.{settledHooks, waitingHooks}
+use Rattle.sessions.specs.Step.{settledHooks, waitingHooks}
 use Rattle.gathered.specs.declared.commits.Struck.{Struck}
 
 abbrev pub cleared : ℕ → ℕ

@@ -18,10 +18,10 @@ use Rattle.theory.specs.Refusals.{firstOf}
 use Rattle.words.specs.declared.CountAnswer.{CountAnswer}
 use Rattle.words.specs.Answers.{Outcome}
 use Rattle.text.specs.Text.{Text}
-use Rattle.characters.specs.declared.Handed.{Handed}
+use Rattle.sessions.specs.declared.Handed.{Handed}
 use Rattle.pages.specs.Sound.{soundIn}
 use Rattle.pages.specs.Sound.Laws.{sound-is}
-use Rattle.characters.specs.Opening.Laws.{Opened, opening-opened}
+use Rattle.sessions.specs.Opening.Laws.{Opened, opening-opened}
 use Rattle.pages.specs.Line.{Line, signedCharacter}
 use Rattle.pages.specs.Page.{worth}
 use Rattle.pages.specs.Mode.{waitingIn}

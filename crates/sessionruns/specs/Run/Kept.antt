@@ -13,12 +13,12 @@ use Rattle.words.specs.declared.CountAnswer.{CountAnswer}
 use Rattle.words.specs.Answers.{Outcome}
 use Rattle.text.specs.Text.{Text}
 use Rattle.pages.specs.declared.Slip.{Slip}
-use Rattle.characters.specs.declared.Handed.{Handed}
+use Rattle.sessions.specs.declared.Handed.{Handed}
 use Rattle.pages.specs.Line.{Line}
 use Rattle.pages.specs.Page.{worth}
 use Rattle.pages.specs.Mode.{Mode, waitingIn}
 use Rattle.pages.specs.Lawful.Put.{waiting-put, sound-put}
-use Rattle.characters.specs.Opening.Laws.{refused-opening}
+use Rattle.sessions.specs.Opening.Laws.{refused-opening}
 use Rattle.sessiontext.specs.declared.Loaded.{Loaded}
 use Rattle.sessiontext.specs.SessionText.{Form, sessionTextBy}
 use Rattle.sessiontext.specs.SessionText.Faithful.{Faithful}

@@ -10,14 +10,14 @@ use Rattle.theory.specs.Refusals.{firstOf}
 use Rattle.words.specs.Answers.{Outcome}
 use Rattle.text.specs.Text.{Text}
 use Rattle.pages.specs.declared.Slip.{Slip}
-use Rattle.characters.specs.declared.Handed.{Handed}
+use Rattle.sessions.specs.declared.Handed.{Handed}
 use Rattle.pages.specs.Line.{Line}
 use Rattle.pages.specs.Page.{worth}
 use Rattle.pages.specs.Mode.{Mode, waitingIn}
 use Rattle.pages.specs.Sound.Laws.{SoundIn}
 use Rattle.pages.specs.Lawful.{Lawful}
-use Rattle.characters.specs.Step.{nextLinesIn, nextSlipIn, commitChecksIn, finishedIn, commitIn}
-use Rattle.characters.specs.Step.Laws.{accepted, next-sound-in, next-waits, next-worth-in}
+use Rattle.sessions.specs.Step.{nextLinesIn, nextSlipIn, commitChecksIn, finishedIn, commitIn}
+use Rattle.sessions.specs.Step.Laws.{accepted, next-sound-in, next-waits, next-worth-in}
 use Rattle.sessiontext.specs.declared.Loaded.{Loaded}
 use Rattle.sessiontext.specs.SessionText.{Form}
 use Rattle.sessiontext.specs.SessionText.Faithful.{Faithful}

@@ -7,7 +7,7 @@ use mathlib.Core.List.{cons-ne-nil}
 use Rattle.theory.specs.Basics.{true, false, not, cond, List, [], _∷_, _++_, map, take, ℕ, _=?_, keep, same}
 use Rattle.words.specs.Answers.Laws.{one-outcome}
 use Rattle.text.specs.Text.{Text}
-use Rattle.characters.specs.Opening.{openingIn}
+use Rattle.sessions.specs.Opening.{openingIn}
 use Rattle.sessiontext.specs.SessionText.{Form}
 use Rattle.sessionruns.specs.Run.{Call, opened, previewed, committed, watched, saved, loaded, Saves, countsAt}
 use Rattle.sessionruns.specs.Run.{Standing, after, begun, Run, Session, isWatch, unwatched}

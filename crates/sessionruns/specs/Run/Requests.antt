@@ -7,8 +7,8 @@ use mathlib.Core.Path.{_≡_, refl, sym, _∙_, ap, ap₂}
 use Rattle.theory.specs.Basics.{List, [], _∷_, map, ℕ}
 use Rattle.text.specs.Text.{Text}
 use Rattle.pages.specs.declared.Slip.{Slip}
-use Rattle.characters.specs.Opening.{openingIn}
-use Rattle.characters.specs.Step.{previewIn, commitIn}
+use Rattle.sessions.specs.Opening.{openingIn}
+use Rattle.sessions.specs.Step.{previewIn, commitIn}
 use Rattle.characters.specs.Watch.{watchIn}
 use Rattle.characters.specs.Watch.Answers.{said, said-reads}
 use Rattle.sessiontext.specs.SessionText.{Form}

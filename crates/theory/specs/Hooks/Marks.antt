@@ -15,6 +15,7 @@ use Rattle.theory.specs.ShapeWord.Shifting.{onesOut}
 use Rattle.theory.specs.Hooks.{Hook}
 pub mod Laws
 pub mod Walk
+pub mod Stretch
 
 unfoldable pub marks : ℕ → ℕ → ℕ
 marks s h = bitAnd ((2 ^ 32 - 1) - s) (s * 2 ^ h % 2 ^ 32) % 2 ^ 31

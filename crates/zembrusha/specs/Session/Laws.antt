@@ -5,7 +5,7 @@ use Rattle.theory.specs.Basics.{List, [], _∷_, ℕ, zero, suc, ℤ}
 use Rattle.theory.specs.Refusals.{firstOf, refusedOr}
 use Rattle.theory.specs.Limits.{degreeLimit}
 use Rattle.words.specs.Answers.{Outcome}
-use Rattle.characters.specs.declared.Handed as calculator-handed
+use Rattle.sessions.specs.declared.Handed as calculator-handed
 use Rattle.pages.specs.declared.Slip as calculator-slip
 use Rattle.pages.specs.Mode.{Mode, waitingIn}
 use Rattle.characters.specs.Watch.{Value, whole, quotient, none, reads, shownIn, watchChecksIn, watchIn}

@@ -2,6 +2,7 @@
 use Prim.Native.Nat.{_*_, _-_, _%_, _^_}
 use native.Mathlib.Omega.{arith}
 use lib.Count.{leadingZeros}
+use borrow.Author.Needs.{needs}
 use Rattle.theory.specs.Basics.{length as lengthOf}
 use Rattle.theory.specs.Hooks.{hookWords}
 use Rattle.characters.proofs.Lengths.{Multiplied, Next, lengths-start, lengths-next, lengths-end}
@@ -16,7 +17,7 @@ abbrev μ-loop : tie.MeasureT-loop
 μ-loop product shape length left₀ all₀ left all = left
 
 marks-requires : tie.Need-marks-requires Inv-loop μ-loop
-marks-requires c κs = c .pre .0 .2
+marks-requires c κs = search needs
 
 loop-holds : tie.Need-loop-holds Inv-loop μ-loop
 loop-holds c =

@@ -2,7 +2,7 @@
 -- adds what each hook counts; the value of a smaller word stands in the row, at degree 4 or less, or is Frobenius's
 -- quotient, or another walk.
 -- The measure is twice the degree of the shape, and one more for the value.
-use mathlib.Core.Path.{sym, _∙_, subst}
+use mathlib.Core.Path.{_≡_, sym, _∙_, subst}
 use Prim.Native.Nat.{ℕ, _+_, _-_, _*_, _%_, _^_, _<_, _≤_}
 use native.Mathlib.Omega.{arith}
 use lib.Count.{leadingZeros}
@@ -10,7 +10,7 @@ use lib.IntN.{ℤ}
 use mir.Facts.{toZ-ofZ}
 use mir.Syntax.{w64}
 use mir.Val.{toZ}
-use borrow.Author.Needs.{sfits-of}
+use borrow.Author.Needs.{needs, sfits-of}
 use borrow.Author.Tests.{leb-true, leb-false}
 use borrow.Fn.Kinds.{In}
 use borrow.Fn.PlainCycle.{Measures, is, falls, and}
@@ -18,8 +18,9 @@ use Rattle.theory.specs.Partition.{degree}
 use Rattle.theory.specs.ShapeWord.{shapeOf}
 use Rattle.theory.specs.ClassWord.{classOf}
 use Rattle.theory.specs.Character.{_on_}
+use Rattle.theory.specs.Hooks.Marks.Stretch.{stretch as stretchOf, raised}
 use Rattle.characters.specs.Private.SmallTables.{tableLimit, rowLength, RowOf}
-use Rattle.characters.proofs.HookSums.{Walked, NextHook, word-below, walk-start, walk-next, walk-end}
+use Rattle.characters.proofs.HookSums.{Walked, NextHook, walk-start, walk-next, walk-end}
 use Rattle.characters.proofs.Identities.{degree-place, quotient-asked, quotient-answers}
 use Rattle.characters.proofs.Walks.{walk as walkable, evaluable-left, degree-falls, hook-rule-holds}
 use Rattle.characters.proofs.Walks.{FirstCycle, first-cycle, character-carried}
@@ -34,9 +35,10 @@ use Rattle.characters.proofs.walking.+hook_walk+value.Lts-value as valu
 use Rattle.characters.proofs.evaluation.add_signed.Reads as added
 use Rattle.characters.proofs.frobenius.is_identity.Reads as identity
 use Rattle.characters.proofs.frobenius.quotient.Reads as quotient
-use Rattle.characters.proofs.hooks.leaves.Reads as leaves
-use Rattle.characters.proofs.hooks.marks.Reads as marks
-use Rattle.characters.proofs.hooks.minus_in_place.Reads as minus
+use Rattle.hooks.proofs.leaves.Reads as leaves
+use Rattle.hooks.proofs.marks.Reads as marks
+use Rattle.hooks.proofs.minus.Reads as minus
+use Rattle.hooks.proofs.stretch.Reads as stretch
 use Rattle.characters.proofs.small_tables.shape_rank.Reads as ranked
 use Rattle.characters.proofs.small_tables.small.Reads as small
 use Rattle.characters.proofs.walking.+hook_walk+value.{statement}
@@ -74,6 +76,8 @@ module _ (t : ℕ) where
   walk-calls = (
     marks.Asked,
     marks.Learnt,
+    stretch.Asked,
+    stretch.Learnt,
     leaves.Asked,
     leaves.Learnt,
     value-below,
@@ -115,7 +119,7 @@ module _ (t : ℕ) where
   shl-rest c = first c .struck .bits
 
   marks-requires : walk-lts.Need-marks-requires walk-calls walk-at walk.Post Inv-loop μ-loop
-  marks-requires c κs = first c .struck .bits
+  marks-requires c κs = search needs
 
   loop-holds : walk-lts.Need-loop-holds walk-calls walk-at walk.Post Inv-loop μ-loop
   loop-holds c = rw (c .marks .ensures) (walk-start _ _ _ (walkable (first (c .before) .evaluable)))
@@ -127,38 +131,48 @@ module _ (t : ℕ) where
       (1 * 2 ^ (31 - leadingZeros 32 (l .left)) % 2 ^ 32)
   next c = walk-next _ _ _ (walkable (first (begin c) .evaluable)) _ _ (c .before .loop .inv) (c .loop-test .taken)
 
-  sub-place : walk-lts.Need-sub-place walk-calls walk-at walk.Post Inv-loop μ-loop
-  sub-place c = next c .within
+  sub-zero : walk-lts.Need-sub-zero walk-calls walk-at walk.Post Inv-loop μ-loop
+  sub-zero c = next c .within
+
+  shl-zero : walk-lts.Need-shl-zero walk-calls walk-at walk.Post Inv-loop μ-loop
+  shl-zero c = omega (arith, next c .below)
+
+  stretch-requires : walk-lts.Need-stretch-requires walk-calls walk-at walk.Post Inv-loop μ-loop
+  stretch-requires c κs = search needs
+
+  sub-left : walk-lts.Need-sub-left walk-calls walk-at walk.Post Inv-loop μ-loop
+  sub-left c = next (c .before) .takes
 
   leaves-requires : walk-lts.Need-leaves-requires walk-calls walk-at walk.Post Inv-loop μ-loop
-  leaves-requires c κs = (word-below _ _ _ (walkable (first (begin c) .evaluable)), next c .from, next c .below)
+  leaves-requires c κs = search needs
+
+  -- what the hook leaves
+  left-is : (c : walk-lts.After-leaves walk-calls walk-at walk.Post Inv-loop μ-loop)
+      → let a = begin (c .before .before) .args in
+      let zero = 1 * 2 ^ (31 - leadingZeros 32 (c .before .before .before .loop .left)) % 2 ^ 32 in
+      c .leaves .result ≡ raised (a .shape) (stretchOf zero (leadingZeros 32 (a .class)))
+  left-is c = rw (c .before .stretch .ensures) at (c .leaves .ensures)
 
   value-requires : walk-lts.Need-value-requires walk-calls walk-at walk.Post Inv-loop μ-loop
   value-requires c κs =
-      let good = next (c .before) .left-good in
-      let start = begin (c .before) in
+      let good = next (c .before .before) .left-good in
+      let start = begin (c .before .before) in
       let f = first start in
-      rw (c .leaves .ensures) (
+      rw (left-is c) (
         omega (arith, degree-falls (f .evaluable) _ good, start .pre .0),
         ((f .struck .below, evaluable-left (f .evaluable) _ good), rw (f .struck .left) at (start .pre .1 .1 .0)),
       )
 
-  minus-requires : walk-lts.Need-minus-in-place-requires walk-calls walk-at walk.Post Inv-loop μ-loop
-  minus-requires c κs = (next (c .before .before) .from, next (c .before .before) .below)
+  minus-requires : walk-lts.Need-minus-requires walk-calls walk-at walk.Post Inv-loop μ-loop
+  minus-requires c κs = search needs
 
   add-signed-requires : walk-lts.Need-add-signed-requires walk-calls walk-at walk.Post Inv-loop μ-loop
   add-signed-requires c κs =
-      rw (c .before .value .ensures, c .before .before .leaves .ensures)
-      (next (c .before .before .before) .room)
+      let valued = c .before in
+      rw (valued .value .ensures, left-is (valued .before)) (next (valued .before .before .before) .room)
 
   abbrev in-loop : walk-lts.After-add-signed walk-calls walk-at walk.Post Inv-loop μ-loop → In-loop
-  in-loop c = c .before .before .before .before
-
-  shl-left : walk-lts.Need-shl-left walk-calls walk-at walk.Post Inv-loop μ-loop
-  shl-left c = omega (arith, next (in-loop c) .below)
-
-  sub-left : walk-lts.Need-sub-left walk-calls walk-at walk.Post Inv-loop μ-loop
-  sub-left c = next (in-loop c) .takes
+  in-loop c = c .before .before .before .before .before
 
   loop-less : walk-lts.Need-loop-less walk-calls walk-at walk.Post Inv-loop μ-loop
   loop-less c = omega (arith, next (in-loop c) .takes, next (in-loop c) .some)
@@ -166,13 +180,11 @@ module _ (t : ℕ) where
   loop-again : walk-lts.Need-loop-again walk-calls walk-at walk.Post Inv-loop μ-loop
   loop-again c =
       let valued = c .before .before in
-      rw (
-        c .add-signed .ensures,
-        c .before .minus-in-place .ensures,
-        valued .value .ensures,
-        valued .before .leaves .ensures,
-      )
-      (next (in-loop c) .walked)
+      let left = valued .before in
+      next (in-loop c) .walked _ _ _
+      (rw (left .before .stretch .ensures) at (c .before .minus .ensures))
+      (rw (left-is left) at (valued .value .ensures))
+      (c .add-signed .ensures)
 
   walk-returns : walk-lts.Need-returns walk-calls walk-at walk.Post Inv-loop μ-loop
   walk-returns c =
@@ -260,13 +272,14 @@ pub +hook-walk+value-spec : {M : Type 1} → statement M
     (shl-rest t)
     (marks-requires t)
     (loop-holds t)
-    (sub-place t)
+    (sub-zero t)
+    (shl-zero t)
+    (stretch-requires t)
+    (sub-left t)
     (leaves-requires t)
     (value-requires t)
     (minus-requires t)
     (add-signed-requires t)
-    (shl-left t)
-    (sub-left t)
     (loop-less t)
     (loop-again t)
     (walk-returns t))

@@ -5,7 +5,7 @@ use borrow.Author.Needs.{needs}
 use lib.Seq.{length-take-le}
 use Rattle.theory.specs.Limits.{degreeLimit}
 use Rattle.words.specs.Answers.{Outcome}
-use Rattle.characters.specs.Step.{commit}
+use Rattle.sessions.specs.Step.{commit}
 use Rattle.gathered.specs.Private.Alone.{alone}
 use Rattle.gathered.proofs.Alone.{paged}
 use Rattle.gathered.proofs.Strikes.{strike-refused, fewer, left-long, size-carried, times-fits, strike-done}

@@ -16,7 +16,7 @@ use Rattle.theory.specs.Limits.{degreeLimit}
 use Rattle.pages.specs.Page.{Slip}
 use Rattle.pages.specs.Sound.{soundWords}
 use Rattle.pages.proofs.Signed.{below-zero}
-use Rattle.pages.proofs.WordPairs.{Pair, pair-refused, pair-passed}
+use Rattle.pairs.proofs.WordPairs.{Pair, pair-refused, pair-passed}
 use Rattle.pages.proofs.SpanTable.{tabled-is}
 use Rattle.pages.proofs.Budgets.{shape-not-good, words-refused, steps-back, settled-dear, steps-long, first-left}
 use Rattle.pages.proofs.paying.first.Statement.{statement}

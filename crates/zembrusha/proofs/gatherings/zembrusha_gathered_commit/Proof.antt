@@ -1,6 +1,6 @@
 -- `zembrusha::gatherings::zembrusha_gathered_commit` meets its contract: it hands on what the call answers.
 use borrow.Author.Needs.{needs}
-use Rattle.characters.specs.declared.Handed.{Handed}
+use Rattle.sessions.specs.declared.Handed.{Handed}
 use Rattle.zembrusha.specs.Exports.{handedOver}
 use Rattle.zembrusha.proofs.HandedOn.{outcome-of}
 use Rattle.zembrusha.proofs.gatherings.zembrusha_gathered_commit.Statement.{statement}

@@ -1,0 +1,2 @@
+pub mod MovedLists
+pub mod Unique

@@ -1,0 +1,2 @@
+-- What only the code needs: definitions that the contracts of private functions cite. Nobody has to believe them.
+pub mod Forms

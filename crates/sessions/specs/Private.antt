@@ -1,0 +1,5 @@
+-- What only the code needs: definitions that the contracts of private functions cite. Nobody has to believe them.
+pub mod Striking
+pub mod Pages
+pub mod ClassLeft
+pub mod Struck

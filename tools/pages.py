@@ -6,7 +6,8 @@
     tools/pages.py --check              says which are not as they would be written; exit status 1 if one is not
     bench/run | tools/pages.py --speed  puts what bench/run printed, with the day, into README.md; nothing checks it
 
-    believed   docs/READING.md: the definitions that the contracts of public functions cite, and that those cite
+    believed   docs/READING.md: the definitions that the contracts of public functions cite, and that those cite,
+               but for two crates (NOT_BELIEVED)
     more       docs/READING.md: the further words of the theorems that this page names as `X: name`
     edits      docs/READING.md: the must-fail edits of theory, each with what it says of itself
     sizes      docs/ARCHITECTURE.md: lines and edits of each crate

@@ -1,7 +1,7 @@
 #!/usr/bin/env python3
 """tables.py: writes the tables of the listing, crates/listing/src/tables.rt, and the displacements that give shape
-words their places, crates/classcolumns/src/tables.rt and specs/Private/Displacements.antt. Run it in the repository, then
-`rt fmt`. What it writes is not believed: the functions that read a table say its rule, and are proved."""
+words their places, crates/classcolumns/src/tables.rt and specs/Private/Displacements.antt. Run it in the repository,
+then `rt fmt`. What it writes is not believed: the functions that read a table say its rule, and are proved."""
 
 LIMIT = 16
 EIGHT_DIGITS = 256

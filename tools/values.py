@@ -1,10 +1,10 @@
 #!/usr/bin/env python3
 """values.py: reckons values by a model of its own, and has the checker compute the definitions and compare.
 
-The definitions are those of the specs of `theory`, `words`, `listing`, `oldlists`, `pairs`, `linewords`, `pages`,
-`sessions`, `characters`, `classcolumns` and `sessiontext`. The model, which shares nothing with them, is model.py,
-gathering.py for the gathered mode, and texts.py for the text of a session. Each equation is a list of expressions over
-the definitions and the list of their values, proved by computation alone (`refl`).
+The definitions are those of the specs of `theory`, `words`, `listing`, `oldlists`, `linewords`, `pages`, `sessions`,
+`characters`, `classcolumns` and `sessiontext`. The model, which shares nothing with them, is model.py, gathering.py for
+the gathered mode, and texts.py for the text of a session. Each equation is a list of expressions over the definitions
+and the list of their values, proved by computation alone (`refl`).
 
 A copy of the crates is made in a temporary folder, with crates beside them that have the equations, and `rt` proves
 these; what the repository has proved already is not proved again. Then some values of each notion are changed at
@@ -16,7 +16,7 @@ random, one in an equation, and the checker has to refuse every such equation: s
     python3 tools/values.py --only commits,watches --seed 7    some notions, other random cases
     python3 tools/values.py --keep DIR       leave the equations in DIR, to be read
 
-Without options it compares some 63,000 values of 4,300 equations, in 240 seconds of processor time on as many cores as
+Without options it compares some 66,000 values of 4,400 equations, in 240 seconds of processor time on as many cores as
 there are up to four (four minutes were seen on two busy ones); longer where the crates have to be proved first.
 
 It is run by hand, and is no part of the gate. The exit status is 0 only if every value agrees and every changed one is

@@ -7,7 +7,7 @@ mod tables {
     mod words {
         pub const DEGREES: usize = 17;
     }
-    include!("../../crates/characters/src/tables.rt");
+    include!("../../crates/classcolumns/src/tables.rt");
     include!("../../crates/listing/src/tables.rt");
 }
 use tables::{COUNTS, DISPLACEMENTS, EIGHT_DIGITS, PLACE_COUNT, STARTS, WORDS};

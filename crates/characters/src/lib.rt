@@ -1,5 +1,5 @@
 // The calculator: characters of the symmetric group, and the watches of a session. Every call takes every input; a
-// refused word or number is 0.
+// refused number is 0.
 ghost use mathlib.Core.Path.{_≡_};
 ghost use Rattle.theory.specs.Limits.{degreeLimit};
 ghost use Rattle.characters.specs.Calls.{characterOf, shapeCharacterDegree};

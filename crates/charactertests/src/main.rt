@@ -1,7 +1,7 @@
-// Runs the calls of `characters` over all classes, shapes and ranks of degree 0 to 16 and at their borders. What they
-// answer is compared with formula (2b) of document 000 and the largest degrees of document 004, which are no theorems
-// here, with formulae (4) and (5), and with each other. A line to a check; none may be wrong. Tests are joined by `&`,
-// which has no branch, so that there is less to prove.
+// Runs the calls of `characters` and `classcolumns` over all classes, shapes and ranks of degree 0 to 16 and at their
+// borders. What they answer is compared with formula (2b) of document 000 and the largest degrees of document 004,
+// which are no theorems here, with formulae (4) and (5), and with each other. A line to a check; none may be wrong.
+// Tests are joined by `&`, which has no branch, so that there is less to prove.
 mod borders;
 mod columns;
 mod degrees;

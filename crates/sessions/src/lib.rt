@@ -1,5 +1,5 @@
-// Sessions (document 01, "Slip and page"; document 02, P3): opened, previewed and committed over a lent page. Everything
-// is read before the first word is written, and a refused call writes nothing.
+// Sessions (document 01, "Slip and page"; document 02, P3): opened, previewed and committed over a lent page.
+// Everything is judged before the first word is written, and a refused call writes nothing.
 ghost use mathlib.Core.Path.{_≡_};
 ghost use Prim.Native.Nat.{_+_, _<_, _^_};
 ghost use lib.IntN.{pos, _+ℤ_, natAbs};
@@ -171,8 +171,8 @@ fn next_slip(slip: Slip, settled: i64, lines: usize) -> Slip
     }
 }
 
-// The new lines of a named line and cycle, in hook order and as a commit puts them on the page, to the front of a strip;
-// their count is the answer, and the rest of the strip stays. Refuses 6, 7, 8, 9, then 18.
+// The new lines of a named line and cycle, in hook order and as a commit puts them on the page, to the front of a
+// strip; their count is the answer, and the rest of the strip stays. Refuses 6, 7, 8, 9, then 18.
 pub fn preview(slip: Slip, page: &[u64], line: usize, cycle: u64, strip: &mut [u64]) -> CountAnswer
     ensures { λ r. ⌜ Outcome (previewOf degreeLimit slip (now (page .entry)) line cycle (now (strip .entry)))
         r (now (strip .exit)) ⌝ }

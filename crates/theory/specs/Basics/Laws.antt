@@ -68,6 +68,7 @@ module _ {A : Type 0} where
   each_member P (x ∷ xs) e = (e x (Memᴰ.head refl), each_member P xs (λ y m. e y (Memᴰ.tail m)))
 
   pub each_of : (P : A → Type 0) (xs : List A) → Each P xs → (x : A) → Memᴰ x xs → P x
+  each_of P [] e x m = elim m [ ]
   each_of P (y ∷ xs) e x (Memᴰ.head q) = rw q e.0
   each_of P (y ∷ xs) e x (Memᴰ.tail m) = each_of P xs e.1 x m
 

@@ -5,7 +5,7 @@
 --   powers f hs         the product of h^(f h) over the numbers hs
 --   hook_powers i n w    each of the n lengths from i, to the power of how many hooks of that length the word w has
 use Rattle.std.specs.Prelude.{◌≡◌, refl, ◌≤◌, ◌<◌}
-use Rattle.std.proofs.Common.{sym, ◌∙◌, ap, ap₂, add-zero, add-suc, pow-suc, mul_assoc, mul-one, one-mul, arith, length-append, drop_of_length-le, pow-add, drop-cons}
+use Rattle.std.proofs.Common.{sym, ◌∙◌, ap, ap₂, subst, add-zero, add-suc, pow-suc, mul_assoc, mul-one, one-mul, arith, length-append, drop_of_length-le, pow-add, drop-cons}
 use Rattle.std.proofs.lemmas.List.{map-append, length-map}
 use Rattle.std.proofs.Math.Nat.{pow-zero, eq_of_mul-eq-mul_right}
 use Rattle.std.proofs.Math.Decide.{dec_lt}
@@ -51,7 +51,10 @@ distances k (true ∷ ds) =
 distances k (false ∷ ds) =
     let e : k + suc (length ds) ≡ suc k + length ds = omega arith in
     let d : suc k + length ds - length ds ≡ suc k = omega arith in
-    rw (e, d) (regroup (factorial k) (suc k) (to_ones (suc k) ds) _ ∙ distances (suc k) ds)
+    subst
+    (λ n. factorial k * (to_ones (suc k) ds * ((n - length ds) * product (map (n -◌) (digit_ls ds)))) ≡ factorial n)
+    (sym e)
+    (rw d (regroup (factorial k) (suc k) (to_ones (suc k) ds) _ ∙ distances (suc k) ds))
   where
     regroup : (f s o z : ℕ) → f * (o * (s * z)) ≡ (s * f) * (o * z)
     regroup f s o z = omega arith

@@ -5,7 +5,7 @@
 --   Claim n        the claim at n, without a division
 --   Exact z n d    z is n divided by d, and the division leaves nothing
 use Rattle.std.specs.Prelude.{◌≡◌, refl, ◌≤◌, ◌<◌}
-use Rattle.std.proofs.Common.{sym, ◌∙◌, ap, ap₂, add-zero, mul-pos, arith}
+use Rattle.std.proofs.Common.{sym, ◌∙◌, ap, ap₂, subst, add-zero, mul-pos, arith}
 use Rattle.std.proofs.Math.Nat.{div-eq_of_eq-mul_left}
 use Rattle.std.proofs.lemmas.List.{length-map}
 use Rattle.std.proofs.Math.IntN.{pos-ne-negsuc, +ℤ_invr, +ℤ-neg_ℤ_cancel, *ℤ-zero, zero-*ℤ, *ℤ_comm}
@@ -58,7 +58,8 @@ spread-stair c zero = rw (add-zero c) (one-times (pos (factorial c)))
 spread-stair c (suc k) =
     let shifted : c + suc k ≡ suc c + k = omega arith in
     let d : ℤ = spread (pos (suc c + k)) (map pos (stair k)) in
-    rw shifted
+    subst (λ n. (pos n -ℤ pos k) *ℤ spread (pos n) (map pos (stair k)) *ℤ pos (factorial c) ≡ pos (factorial n))
+    (sym shifted)
     (ap (λ z. z *ℤ d *ℤ pos (factorial c)) (+ℤ-neg_ℤ_cancel (pos (suc c)) (pos k))
     ∙ ring (pos (suc c) ∷ d ∷ pos (factorial c) ∷ []) (var 0 ⊗ var 1 ⊗ var 2) (var 1 ⊗ (var 0 ⊗ var 2)) refl
     ∙ spread-stair (suc c) k)

@@ -28,7 +28,7 @@ hook-first k ds =
     let b : suc k - 1 ≡ k = omega arith in
     simp (a, b)
     (elim (dec_lt k (length ds)) [
-      | yes l ↦ simp (drop-cons ds k false l, set_split ds k false l) (begins (get_or ds k false) _ _)
+      | yes l ↦ simp (drop-cons ds k false l, set_split ds k false l) (begins (get_or ds k false) (take k ds) (drop (suc k) ds))
       | no g ↦
           let l : length ds ≤ k = omega arith in
           rw (drop_of_length-le ds {i = k} l, get_or-eq_default ds false {n = k} l)

@@ -69,8 +69,9 @@ stands [] (too_large h b) f = absurd (omega arith)
 stands [] (fork h a b) f = absurd (omega arith)
 stands (q ∷ qs) done f = let g = front q qs f.partition in absurd (omega arith)
 stands (q ∷ qs) stuck f = let g = front q qs f.partition in absurd (omega arith)
-stands (q ∷ qs) (too_large {p = p} {n = n} h b) f =
-    rw (count-too-large p n h) (stands (q ∷ qs) b (partition-bound p (omega arith) f))
+stands {list = list} (q ∷ qs) (too_large {p = p} {n = n} h b) f =
+    rw (count-too-large p n h)
+    (stands {p = p} {n = suc n} {list = list} (q ∷ qs) b (partition-bound p (omega arith) f))
 stands (q ∷ qs) (fork {p = p} {n = n} {with-p = with-p} {below = below} h a b) f =
     let g = front q qs f.partition in
     elim (ℕ_discrete q (suc p)) [

@@ -3,7 +3,7 @@
 --   InOrder l         in order, and still so with a 0 put behind the last part
 --   PositiveFirst l   no part, or a positive one in front
 use Rattle.std.specs.Prelude.{◌≡◌, refl}
-use Rattle.std.proofs.Common.{sym, ◌∙◌, ap, arith}
+use Rattle.std.proofs.Common.{sym, ◌∙◌, ap, subst, arith}
 use Rattle.std.proofs.Math.Dec.{eqb-suc-zero}
 use Rattle.std.proofs.Math.IntN.{pos-ne-negsuc, +ℤ-neg_ℤ_cancel, -ℤ-+ℤ_cancel}
 use Rattle.theory.specs.Basics.{true, List, [], ◌∷◌, ◌++◌, ℕ, zero, suc, ◌+◌, every, ◌=?◌}
@@ -35,9 +35,12 @@ sunk P Q a b bs e h =
 abbrev Below : ℤ → List ℤ → Type 0
 Below c l = Descending (c ∷ l)
 
+below-back : (b : ℤ) (bs : List ℤ) → Below b bs → Below (b -ℤ pos 1 +ℤ pos 1) bs
+below-back b bs d = subst (λ x. Below x bs) (sym (-ℤ-+ℤ_cancel b (pos 1))) d
+
 sink-below : (c a : ℤ) (bs : List ℤ) → Below (c +ℤ pos 1) bs → AtMost a c → Holds (Below c) (sink a bs)
 sink-below c a [] d h = (h, tt)
-sink-below c a (b ∷ bs) d h = go (λ k. sink-below (b -ℤ pos 1) (a +ℤ pos 1) bs (rw (-ℤ-+ℤ_cancel b (pos 1)) d.1) k)
+sink-below c a (b ∷ bs) d h = go (λ k. sink-below (b -ℤ pos 1) (a +ℤ pos 1) bs (below-back b bs d.1) k)
   where
     go : (AtMost (a +ℤ pos 1) (b -ℤ pos 1) → Holds (Below (b -ℤ pos 1)) (sink (a +ℤ pos 1) bs))
         → Holds (Below c) (sink a (b ∷ bs))
@@ -54,7 +57,7 @@ sink-descending a (b ∷ bs) d = sink-cases (Holds Descending) a b bs
     (λ n e. ((n, from-difference a b (pos n) e), d))
     (λ e. tt)
     (λ n e. sunk (Below (b -ℤ pos 1)) Descending a b bs (λ l k. k)
-    (sink-below (b -ℤ pos 1) (a +ℤ pos 1) bs (rw (-ℤ-+ℤ_cancel b (pos 1)) d) (exchange-falls a b n e)))
+    (sink-below (b -ℤ pos 1) (a +ℤ pos 1) bs (below-back b bs d) (exchange-falls a b n e)))
 
 pub ordered-descending : (l : List ℤ) → Holds Descending (ordered l)
 ordered-descending [] = tt

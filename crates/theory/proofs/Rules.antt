@@ -1,4 +1,5 @@
 -- Laws of what specs/Rules.antt defines.
 pub mod InOrder
+pub mod Sinking
 pub mod Laws
 pub mod Ends

@@ -57,7 +57,11 @@ module _ (d : Bool) (h : ℕ) (ds : Digits) where
   hooks-behind : (i n : ℕ) → joined (hook_at h (d ∷ ds)) (up_from (suc (suc i)) n)
       ≡ map (led d) (joined (hook_at h ds) (up_from (suc i) n))
   hooks-behind i zero = refl
-  hooks-behind i (suc n) = rw (hook-behind i, hooks-behind (suc i) n, map-append)
+  hooks-behind i (suc n) = rw (
+    hook-behind i,
+    hooks-behind (suc i) n,
+    map-append (led d) (hook_at h ds (suc i)) (joined (hook_at h ds) (up_from (suc (suc i)) n)),
+  )
 
 -- ---- the walk
 pub hooks-none : (h : ℕ) → hooks h [] ≡ []

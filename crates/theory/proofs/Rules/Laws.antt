@@ -5,40 +5,16 @@ use Rattle.std.proofs.Common.{sym, ap, subst, append_assoc, zero-add}
 use Rattle.std.proofs.Math.IntN.{+ℤ_idr}
 use Rattle.theory.specs.Basics.{List, [], ◌∷◌, ◌++◌, ℕ, suc, length, ℤ, pos, negsuc, ◌+ℤ◌, ◌-ℤ◌}
 use Rattle.theory.specs.Character.{Term, nothing, plus, then, before, value, sink, ordered, rule-1, sorted}
-use Rattle.theory.proofs.Basics.Integers.{from-below, more-one, less_one}
+use Rattle.theory.proofs.Basics.Integers.{more-one, less_one}
 use Rattle.theory.proofs.Character.Terms.{value-turn, Holds, holds-map, holds-turn, holds_then}
-use Rattle.theory.proofs.Character.Terms.{then-turn, then-then, sink-cases}
+use Rattle.theory.proofs.Character.Terms.{then-then}
 use Rattle.theory.proofs.Character.Alternating.{here, Alternating, ZeroBelow, raised_by, swap_at, twice-zero}
 use Rattle.theory.proofs.Character.Betas.{betas, betas-append}
 use Rattle.theory.specs.Rules.{Descending, in_order, by-rule-1, by-rule-2, by-rule-3, Comes, stopped, moved}
 use Rattle.theory.proofs.Rules.InOrder.{InOrder, ordered-descending}
+use Rattle.theory.proofs.Rules.Sinking.{sink-comes}
 
 -- ---- the definition follows the rules
--- if what the sinking part comes to comes to g by the rules, then so does what it was
-sink-comes : (p : List ℤ) (a : ℤ) (bs : List ℤ) (g : List ℤ → Term (List ℤ))
-    → Holds (λ u. Comes (p ++ u) (g u)) (sink a bs) → Comes (p ++ (a ∷ bs)) (then g (sink a bs))
-sink-comes p a [] g h = h
-sink-comes p a (b ∷ bs) g h = go (sink-comes (p ++ (back ∷ [])) (a +ℤ pos 1) bs (λ u. g (back ∷ u))) h
-  where
-    back : ℤ
-    back = b -ℤ pos 1
-
-    deeper : Term (List ℤ)
-    deeper = sink (a +ℤ pos 1) bs
-
-    Ends : List ℤ → Type 0
-    Ends u = Comes (p ++ u) (g u)
-
-    go : (Holds (λ u. Comes (p ++ (back ∷ []) ++ u) (g (back ∷ u))) deeper
-        → Comes (p ++ (back ∷ []) ++ ((a +ℤ pos 1) ∷ bs)) (then (λ u. g (back ∷ u)) deeper))
-        → Holds Ends (sink a (b ∷ bs)) → Comes (p ++ (a ∷ b ∷ bs)) (then g (sink a (b ∷ bs)))
-    go rest = sink-cases (λ t. Holds Ends t → Comes (p ++ (a ∷ b ∷ bs)) (then g t)) a b bs
-        (λ n e h. h)
-        (λ e h. rw (from-below a b 0 e) (stopped (by-rule-2 p a bs)))
-        (λ n e h. rw (then-turn g (before back deeper), then-then g (λ l. plus (back ∷ l)) deeper)
-        (moved (by-rule-3 p a b bs n e) (simp append_assoc at (rest (simp append_assoc
-        (rw (holds-turn Ends (before back deeper), holds_then Ends (λ l. plus (back ∷ l)) deeper) at h))))))
-
 ordered-comes : (p l : List ℤ) (g : List ℤ → Term (List ℤ)) → Holds (λ s. Comes (p ++ s) (g s)) (ordered l)
     → Comes (p ++ l) (then g (ordered l))
 ordered-comes p [] g h = h

@@ -1,0 +1,76 @@
+#!/usr/bin/env python3
+"""Writes docs/PORT-MOVED.md: the statements of theory's proofs/, file by file, as they stand there.
+
+    python3 tools/moved_list.py
+
+Run at the top of the repository. A statement is the signature of a declaration that is neither a definition (abbrev,
+unfoldable) nor a type, with the parameters of the modules that it stands in; what is local to a proof is left out.
+"""
+import glob
+import re
+
+FROM, TO = "crates/theory/proofs", "docs/PORT-MOVED.md"
+ITEM = re.compile(r" *(?:pub )?[^\s(){},;]+ : ")
+
+
+def room(line):
+    return len(line) - len(line.lstrip(" "))
+
+
+def whole(lines, at):
+    """The line at `at` and those that go on from it: deeper, with no blank between."""
+    end = at + 1
+    while end < len(lines) and lines[end] and room(lines[end]) > room(lines[at]):
+        end += 1
+    return lines[at:end]
+
+
+def header(lines, at):
+    """The lines of `module _ .. where`."""
+    end = next(i for i in range(at, len(lines)) if lines[i].endswith(" where"))
+    return lines[at:end + 1]
+
+
+def statements(lines):
+    out, told, inside, skip = [], [], [], 0
+    for at, line in enumerate(lines):
+        if at < skip or not line or line.lstrip().startswith("--"):
+            continue
+        while inside and room(line) <= room(lines[inside[-1]]):
+            inside.pop()
+        if re.match(r" *module _ ", line):
+            inside.append(at)
+            skip = at + len(header(lines, at))
+        elif ITEM.match(line) and room(line) == (room(lines[inside[-1]]) + 2 if inside else 0):
+            if out and inside != told:
+                out.append("")
+            for module in inside:
+                if module not in told:
+                    out += header(lines, module)
+            told = list(inside)
+            out += whole(lines, at)
+    return out
+
+
+def main():
+    text = [
+        "# The statements that moved",
+        "",
+        "Theory's theorems stand in `proofs/`, the definitions in `specs/`. This is what moved, machine-made by",
+        "`tools/moved_list.py`: for each file of `crates/theory/proofs` every statement as it stands there, with the",
+        "parameters of its modules. A name marked `pub` can be used by other files.",
+    ]
+    files = names = 0
+    for path in sorted(glob.glob(f"{FROM}/**/*.antt", recursive=True)):
+        with open(path, encoding="utf-8") as it:
+            found = statements(it.read().split("\n"))
+        if found:
+            files += 1
+            names += sum(1 for line in found if ITEM.match(line) and not line.lstrip().startswith(("→", "module", "(", "≡")))
+            text += ["", f"## `{path[len(FROM) + 1:]}`", "", "```", *found, "```"]
+    with open(TO, "w", encoding="utf-8") as it:
+        it.write("\n".join(text) + "\n")
+    print(f"{TO}: {files} files, {names} statements")
+
+
+main()

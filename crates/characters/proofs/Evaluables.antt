@@ -1,9 +1,9 @@
 -- Words that the evaluation takes: a pair that is not refused.
 use Rattle.theory.specs.Basics.{ℕ}
 use Rattle.theory.specs.Digits.{digits, width}
-use Rattle.theory.specs.ShapeWord.Good.{shape-good}
+use Rattle.theory.proofs.ShapeWord.Good.{shape-good}
 use Rattle.theory.specs.ClassWord.{class_of}
-use Rattle.theory.specs.ClassWord.Laws.{parts-no-zero}
+use Rattle.theory.proofs.ClassWord.Laws.{parts-no-zero}
 use Rattle.theory.specs.Refusals.Laws.{Matched}
 use Rattle.characters.specs.Private.Evaluation.{Evaluable}
 

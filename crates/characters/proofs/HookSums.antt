@@ -15,19 +15,21 @@ use lib.Count.{count_leading_zeros}
 use lib.IntN.{+ℤ_idl, +ℤ_idr, +ℤ_assoc}
 use lib.ListN.{length-map}
 use Rattle.theory.specs.Basics.{Bool, length, ℕ, ◌+◌, ◌-◌, ◌*◌, ◌%◌, ◌^◌, ℤ, pos, ◌+ℤ◌, nat_abs, sum, signed}
-use Rattle.theory.specs.Basics.Laws.{Each}
+use Rattle.theory.specs.Basics.{Each}
 use Rattle.theory.specs.Partition.{degree}
 use Rattle.theory.specs.Digits.{width}
 use Rattle.theory.specs.ShapeWord.{shape_of}
 use Rattle.theory.specs.Hooks.{Hook}
 use Rattle.theory.specs.Hooks.Words.{Left}
-use Rattle.theory.specs.Hooks.Bounds.{step-factorial}
+use Rattle.theory.proofs.Hooks.Bounds.{step-factorial}
 use Rattle.theory.specs.Hooks.Marks.{marks, places, marked_hook}
-use Rattle.theory.specs.Hooks.Marks.Laws.{hooks-marked}
-use Rattle.theory.specs.Hooks.Marks.Walk.{Begun, highest, places-none, marks_begin, sum-marked}
-use Rattle.theory.specs.Hooks.Marks.Stretch.{stretch, zeros_odd, raised, hook_by, hook-stretched}
+use Rattle.theory.proofs.Hooks.Marks.Laws.{hooks-marked}
+use Rattle.theory.proofs.Hooks.Marks.Walk.{Begun, highest, places-none, marks_begin, sum-marked}
+use Rattle.theory.specs.Hooks.Marks.Stretch.{stretch, zeros_odd, raised, hook_by}
+use Rattle.theory.proofs.Hooks.Marks.Stretch.{hook-stretched}
 use Rattle.theory.specs.Bounds.{factorial}
-use Rattle.theory.specs.Bounds.Laws.{abs-add, abs-signed, largest_limit}
+use Rattle.theory.specs.Bounds.Laws.{largest_limit}
+use Rattle.theory.proofs.Bounds.Laws.{abs-add, abs-signed}
 use Rattle.theory.specs.Refusals.Laws.{Within}
 use Rattle.words.proofs.Factorials.{factorial-fits}
 use Rattle.pages.proofs.Signed.{carried, carried-is}

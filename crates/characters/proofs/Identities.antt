@@ -11,12 +11,12 @@ use borrow.Author.Tests.{eq-eqb, ne_eqb, eqb-true}
 use Rattle.theory.specs.Basics.{true, ℕ, ◌+◌, ◌-◌, ◌*◌, ◌%◌, ◌^◌, ◌=?◌, replicate}
 use Rattle.theory.specs.Partition.{Parts, degree}
 use Rattle.theory.specs.Digits.{width}
-use Rattle.theory.specs.Digits.Laws.{one_shifted}
+use Rattle.theory.proofs.Digits.Laws.{one_shifted}
 use Rattle.theory.specs.ShapeWord.{shape_of}
 use Rattle.theory.specs.ClassWord.{class_of, class_word}
-use Rattle.theory.specs.ClassWord.Laws.{class-of-word}
-use Rattle.theory.specs.ClassWord.Reading.{degree-told}
-use Rattle.theory.specs.ClassWord.Identity.{ones-held, ones-word}
+use Rattle.theory.proofs.ClassWord.Laws.{class-of-word}
+use Rattle.theory.proofs.ClassWord.Reading.{degree-told}
+use Rattle.theory.proofs.ClassWord.Identity.{ones-held, ones-word}
 use Rattle.theory.specs.Character.{◌on◌, character_degree}
 use Rattle.theory.specs.Bounds.Laws.{largest_limit}
 use Rattle.pages.proofs.Signed.{carried}

@@ -17,14 +17,15 @@ use Rattle.theory.specs.Partition.{degree}
 use Rattle.theory.specs.Digits.{width}
 use Rattle.theory.specs.ShapeWord.{shape_of}
 use Rattle.theory.specs.Bounds.{factorial}
-use Rattle.theory.specs.Bounds.Laws.{factorial-rises, largest_limit}
+use Rattle.theory.specs.Bounds.Laws.{largest_limit}
+use Rattle.theory.proofs.Bounds.Laws.{factorial-rises}
 use Rattle.theory.specs.Character.{character_degree}
 use Rattle.theory.specs.Hooks.{hook_words}
-use Rattle.theory.specs.Hooks.Degrees.{degree-positive, degree-bounded}
+use Rattle.theory.proofs.Hooks.Degrees.{degree-positive, degree-bounded}
 use Rattle.theory.specs.Hooks.Marks.{marks, places}
-use Rattle.theory.specs.Hooks.Marks.Laws.{hooks-marked}
-use Rattle.theory.specs.Hooks.Marks.Walk.{highest, places-none}
-use Rattle.theory.specs.Frobenius.HookLengths.{hook_powers, hook-lengths}
+use Rattle.theory.proofs.Hooks.Marks.Laws.{hooks-marked}
+use Rattle.theory.proofs.Hooks.Marks.Walk.{highest, places-none}
+use Rattle.theory.proofs.Frobenius.HookLengths.{hook_powers, hook-lengths}
 use Rattle.theory.specs.Refusals.Laws.{Within}
 use Rattle.words.proofs.Factorials.{factorial-fits}
 use Rattle.pages.proofs.Signed.{carried, carried-is}

@@ -5,14 +5,15 @@ use native.Mathlib.Nat.{one-mul}
 use native.Mathlib.Omega.{arith}
 use lib.IntN.{*ℤ_comm}
 use Rattle.theory.specs.Basics.{Bool, ℕ, ◌+◌, ◌^◌, ℤ, pos, ◌+ℤ◌, ◌*ℤ◌, nat_abs, signed}
-use Rattle.theory.specs.Basics.Integers.Products.{times-one, times-signed}
+use Rattle.theory.proofs.Basics.Integers.Products.{times-one, times-signed}
 use Rattle.theory.specs.Digits.{bit, digits, width}
 use Rattle.theory.specs.ShapeWord.{shape_of}
 use Rattle.theory.specs.ClassWord.{class_of}
-use Rattle.theory.specs.ClassWord.Laws.{good-class, parts-no-zero}
+use Rattle.theory.proofs.ClassWord.Laws.{good-class, parts-no-zero}
 use Rattle.theory.specs.Character.{◌on◌}
 use Rattle.theory.specs.Bounds.{factorial}
-use Rattle.theory.specs.Bounds.Laws.{abs-add, largest_limit}
+use Rattle.theory.specs.Bounds.Laws.{largest_limit}
+use Rattle.theory.proofs.Bounds.Laws.{abs-add}
 use Rattle.pages.specs.Line.{Line, line_degree, signed_character}
 use Rattle.pages.specs.Page.{line_of}
 use Rattle.pages.specs.Page.Words.{unit-weight}

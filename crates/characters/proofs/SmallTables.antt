@@ -11,19 +11,19 @@ use lib.ListN.{length-append, length-map, get_or-append}
 use borrow.Author.Tests.{leb-true}
 use Rattle.theory.specs.Basics.{true, List, [], ◌++◌, map, length, get_or, every, up_from}
 use Rattle.theory.specs.Basics.{ℕ, suc, ◌+◌, ◌-◌, ◌≤?◌, ℤ, pos}
-use Rattle.theory.specs.Basics.AtPlace.{map_at, up-length, map-up-at, every-up}
+use Rattle.theory.proofs.Basics.AtPlace.{map_at, up-length, map-up-at, every-up}
 use Rattle.theory.specs.Partition.{Parts, degree}
 use Rattle.theory.specs.Digits.{digits, width}
 use Rattle.theory.specs.ShapeWord.{shape_of}
-use Rattle.theory.specs.ShapeWord.Laws.{rows-partition}
+use Rattle.theory.proofs.ShapeWord.Laws.{rows-partition}
 use Rattle.theory.specs.ClassWord.{class_of}
-use Rattle.theory.specs.ClassWord.Reading.{degree-told}
+use Rattle.theory.proofs.ClassWord.Reading.{degree-told}
 use Rattle.theory.specs.Character.{◌on◌, character}
 use Rattle.theory.specs.Listing.{listing, partitions, rank, partition_counts}
-use Rattle.theory.specs.Listing.Laws.{count_kept}
-use Rattle.theory.specs.Listing.Ranks.{Stands, at-rank, listed}
+use Rattle.theory.proofs.Listing.Laws.{count_kept}
+use Rattle.theory.proofs.Listing.Ranks.{Stands, at-rank, listed}
 use Rattle.theory.specs.Column.{column}
-use Rattle.theory.specs.Column.Laws.{column-at, column-length}
+use Rattle.theory.proofs.Column.Laws.{column-at, column-length}
 use Rattle.characters.specs.Private.Evaluation.{Evaluable}
 use Rattle.characters.specs.Private.SmallTables.{table_limit, row_length, small_tables, SmallClass, SameColumn}
 use Rattle.characters.specs.Private.SmallTables.{TableRow, RowOf}

@@ -16,16 +16,16 @@ use lib.Count.{count_leading_zeros, count_trailing_zeros, trailing_of_zero}
 use borrow.Author.Tests.{ltb-true, eqb-true, le-leb, lt-leb}
 use Rattle.theory.specs.Basics.{Bool, true, List, [], ◌∷◌, map, length, get_or, every, up_from}
 use Rattle.theory.specs.Basics.{ℕ, suc, ◌*◌, ◌/◌, ◌%◌, ◌^◌, ◌=?◌, ◌<?◌, ◌≤?◌, ℤ}
-use Rattle.theory.specs.Basics.AtPlace.{every-at, every-up, same_up}
+use Rattle.theory.proofs.Basics.AtPlace.{every-at, every-up, same_up}
 use Rattle.theory.specs.Partition.{Parts, degree}
 use Rattle.theory.specs.Digits.{digits, word, width}
-use Rattle.theory.specs.Digits.Low.{trailing-multiple}
+use Rattle.theory.proofs.Digits.Low.{trailing-multiple}
 use Rattle.theory.specs.ShapeWord.{shape_of, good_shape}
 use Rattle.theory.specs.ClassWord.{class_of}
-use Rattle.theory.specs.ClassWord.Reading.{class-degree, degree-told, first_part}
+use Rattle.theory.proofs.ClassWord.Reading.{class-degree, degree-told, first_part}
 use Rattle.theory.specs.Character.{character}
 use Rattle.theory.specs.Listing.{listing, partitions, rank, words_below}
-use Rattle.theory.specs.Listing.Words.{index, indexed}
+use Rattle.theory.proofs.Listing.Words.{index, indexed}
 use Rattle.theory.specs.Column.{column}
 use Rattle.characters.specs.Private.SmallTables.{table_limit, SmallClass, SameColumn, cycles_left}
 

@@ -9,9 +9,8 @@ use native.Mathlib.Omega.{arith}
 use lib.IntN.{+ℤ_idl, +ℤ_idr, +ℤ_assoc}
 use lib.ListN.{drop_of_length-le}
 use lib.Seq.{drop-cons}
-use Rattle.theory.specs.Basics.{List, ◌∷◌, length, drop, ℕ, ◌+◌, ◌^◌, ℤ, pos, ◌+ℤ◌, nat_abs, sum}
-use Rattle.theory.specs.Basics.Laws.{Each}
-use Rattle.theory.specs.Bounds.Laws.{abs-add}
+use Rattle.theory.specs.Basics.{List, ◌∷◌, length, drop, ℕ, ◌+◌, ◌^◌, ℤ, pos, ◌+ℤ◌, nat_abs, sum, Each}
+use Rattle.theory.proofs.Bounds.Laws.{abs-add}
 use Rattle.pages.specs.Line.{Line, signed_character}
 use Rattle.pages.specs.Page.{line_of, line_at}
 use Rattle.pages.specs.Sound.{line_value}

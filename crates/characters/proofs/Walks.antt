@@ -10,15 +10,16 @@ use Rattle.theory.specs.Partition.{Parts, degree}
 use Rattle.theory.specs.Partition.Laws.{NoZero, some}
 use Rattle.theory.specs.Digits.{digits, width}
 use Rattle.theory.specs.ShapeWord.{shape_of}
-use Rattle.theory.specs.ShapeWord.Good.{good-shape}
-use Rattle.theory.specs.ShapeWord.Laws.{rows-partition}
+use Rattle.theory.proofs.ShapeWord.Good.{good-shape}
+use Rattle.theory.proofs.ShapeWord.Laws.{rows-partition}
 use Rattle.theory.specs.ClassWord.{class_of}
 use Rattle.theory.specs.Character.{◌on◌}
-use Rattle.theory.specs.Character.Order.{empty-on-empty}
+use Rattle.theory.proofs.Character.Order.{empty-on-empty}
 use Rattle.theory.specs.Hooks.{Hook}
-use Rattle.theory.specs.Hooks.Words.{Left, hook-rule-first}
+use Rattle.theory.specs.Hooks.Words.{Left}
+use Rattle.theory.proofs.Hooks.Words.{hook-rule-first}
 use Rattle.theory.specs.Bounds.{factorial}
-use Rattle.theory.specs.Hooks.Bounds.{word-bounded}
+use Rattle.theory.proofs.Hooks.Bounds.{word-bounded}
 use Rattle.theory.specs.Bounds.Laws.{largest_limit}
 use Rattle.theory.specs.Refusals.Laws.{Within}
 use Rattle.words.proofs.Factorials.{factorial-fits}

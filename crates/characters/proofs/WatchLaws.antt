@@ -7,14 +7,15 @@ use native.Mathlib.Omega.{arith}
 use borrow.Author.Tests.{le-leb, lt-leb}
 use lib.Ieee.{binary64, of_int, div}
 use lib.IntN.{+ℤ_idl}
-use Rattle.theory.specs.Basics.{cond, List, [], ◌∷◌, ℕ, ◌+◌, ◌^◌, ℤ, pos, ◌+ℤ◌, nat_abs, ◌≤?◌, sum}
-use Rattle.theory.specs.Basics.Laws.{Each, each_same}
+use Rattle.theory.specs.Basics.{cond, List, [], ◌∷◌, ℕ, ◌+◌, ◌^◌, ℤ, pos, ◌+ℤ◌, nat_abs, ◌≤?◌, sum, Each}
+use Rattle.theory.proofs.Basics.Laws.{each_same}
 use Rattle.theory.specs.Bounds.Laws.{largest_limit}
 use Rattle.theory.specs.ShapeWord.{shape_of}
-use Rattle.theory.specs.ShapeWord.Good.{good-shape}
+use Rattle.theory.proofs.ShapeWord.Good.{good-shape}
 use Rattle.theory.specs.Character.{character_degree}
 use Rattle.theory.specs.Refusals.{Check, first_of, shape_checks, no-8}
-use Rattle.theory.specs.Refusals.Laws.{both-pass, first-refuses, first_passes, or-refused, or-given, shape-passes}
+use Rattle.theory.proofs.Refusals.Laws.{both-pass, first-refuses, first_passes, or-refused, or-given}
+use Rattle.theory.proofs.Refusals.Laws.{shape-passes}
 use Rattle.words.specs.Answers.{number_answer}
 use Rattle.words.specs.declared.NumberAnswer.{NumberAnswer}
 use Rattle.words.proofs.Factorials.{factorial-fits}

@@ -1,7 +1,6 @@
 // Waiting lines (document 01, "Slip and page"): a line is weighed.
 ghost use Rattle.std.specs.Prelude.{◌≡◌, ◌+◌, ◌<◌, ◌^◌, ◌+ℤ◌, nat_abs};
-ghost use Rattle.theory.specs.Basics.{map, sum as sum_of};
-ghost use Rattle.theory.specs.Basics.Laws.{Each};
+ghost use Rattle.theory.specs.Basics.{map, sum as sum_of, Each};
 ghost use Rattle.theory.specs.Bounds.Laws.{largest_limit};
 ghost use Rattle.pages.specs.Line.{signed_character};
 ghost use Rattle.pages.specs.Page.{line_of};

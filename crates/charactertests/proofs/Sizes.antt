@@ -10,7 +10,7 @@ use mir.Facts.{to_z-of_z}
 use mir.Syntax.{w64}
 use mir.Val.{SFits}
 use borrow.Author.Tests.{ltb-false}
-use Rattle.theory.specs.Bounds.Laws.{abs_neg}
+use Rattle.theory.proofs.Bounds.Laws.{abs_neg}
 use Rattle.pages.proofs.Signed.{carried, carried-is}
 
 pub size-between : (z : ℤ) → lt_z z (negsuc 1999999) ≡ false → lt_z (pos 2000000) z ≡ false → nat_abs z ≤ 2000000

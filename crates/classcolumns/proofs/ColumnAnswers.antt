@@ -7,13 +7,13 @@ use Rattle.theory.specs.Basics.{List, ℕ, ℤ, pos, length}
 use Rattle.theory.specs.Partition.{degree}
 use Rattle.theory.specs.Digits.{digits, width}
 use Rattle.theory.specs.ClassWord.{class_of}
-use Rattle.theory.specs.ClassWord.Laws.{parts-no-zero}
+use Rattle.theory.proofs.ClassWord.Laws.{parts-no-zero}
 use Rattle.theory.specs.Listing.{listing}
 use Rattle.theory.specs.Column.{column}
-use Rattle.theory.specs.Column.Laws.{column-length}
+use Rattle.theory.proofs.Column.Laws.{column-length}
 use Rattle.theory.specs.Bounds.Laws.{largest_limit}
 use Rattle.theory.specs.Refusals.{first_of, class_checks}
-use Rattle.theory.specs.Refusals.Laws.{within-class}
+use Rattle.theory.proofs.Refusals.Laws.{within-class}
 use Rattle.words.specs.Answers.{Outcome, count_answer, at_front}
 use Rattle.words.specs.Answers.Laws.{numbered-refusal}
 use Rattle.words.specs.declared.CountAnswer.{CountAnswer}

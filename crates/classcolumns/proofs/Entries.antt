@@ -7,16 +7,16 @@ use native.Mathlib.Omega.{arith}
 use lib.ListN.{length-map}
 use lib.Seq.{drop-cons, ext_get_or}
 use Rattle.theory.specs.Basics.{true, List, [], ◌∷◌, length, get_or, drop, ℕ, suc, ◌+◌, ℤ, pos}
-use Rattle.theory.specs.Basics.AtPlace.{map_at}
+use Rattle.theory.proofs.Basics.AtPlace.{map_at}
 use Rattle.theory.specs.Partition.{Parts, degree}
 use Rattle.theory.specs.ShapeWord.{shape_word, good_shape}
-use Rattle.theory.specs.ShapeWord.Words.{word_back, small-has-room}
+use Rattle.theory.proofs.ShapeWord.Words.{word_back, small-has-room}
 use Rattle.theory.specs.Character.{◌on◌}
 use Rattle.theory.specs.Listing.{listing, start}
 use Rattle.theory.specs.Column.{column}
-use Rattle.theory.specs.Column.Laws.{column-length, column-at}
-use Rattle.theory.specs.Listing.Ranks.{at-rank}
-use Rattle.theory.specs.Listing.Words.{start-within, word_at, word-ranked}
+use Rattle.theory.proofs.Column.Laws.{column-length, column-at}
+use Rattle.theory.proofs.Listing.Ranks.{at-rank}
+use Rattle.theory.proofs.Listing.Words.{start-within, word_at, word-ranked}
 use Rattle.theory.specs.Bounds.Laws.{largest_limit}
 use Rattle.listing.specs.Calls.{words_within}
 use Rattle.classcolumns.specs.Private.Places.{Places}

@@ -9,11 +9,11 @@ use borrow.Author.Tests.{eq-eqb, eqb-true}
 use Rattle.theory.specs.Basics.{true, List, [], get_or, replicate, ℕ, zero, suc, ℤ, pos, nat_abs}
 use Rattle.theory.specs.Partition.{Parts, degree}
 use Rattle.theory.specs.ShapeWord.{shape_of, good_shape}
-use Rattle.theory.specs.ShapeWord.Good.{good-shape}
-use Rattle.theory.specs.ShapeWord.Words.{empty-word}
+use Rattle.theory.proofs.ShapeWord.Good.{good-shape}
+use Rattle.theory.proofs.ShapeWord.Words.{empty-word}
 use Rattle.theory.specs.Bounds.{factorial}
-use Rattle.theory.specs.Bounds.Laws.{factorial-positive}
-use Rattle.theory.specs.Listing.Words.{Ranked}
+use Rattle.theory.proofs.Bounds.Laws.{factorial-positive}
+use Rattle.theory.proofs.Listing.Words.{Ranked}
 use Rattle.theory.specs.Refusals.Laws.{Within}
 use Rattle.characters.specs.Private.Evaluation.{Evaluable}
 use Rattle.classcolumns.specs.Private.Places.{Places}

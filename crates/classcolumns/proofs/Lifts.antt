@@ -13,15 +13,16 @@ use native.Mathlib.Omega.{arith}
 use lib.ListN.{set}
 use lib.Seq.{drop-length}
 use Rattle.theory.specs.Basics.{true, List, [], ◌∷◌, length, get_or, drop, signed, ℕ, suc, ◌+◌, ◌-◌, ℤ}
-use Rattle.theory.specs.Basics.Laws.{sum_same}
+use Rattle.theory.proofs.Basics.Laws.{sum_same}
 use Rattle.theory.specs.Partition.{Parts, degree}
-use Rattle.theory.specs.Partition.Laws.{no-zero-drop, degree-drop}
+use Rattle.theory.proofs.Partition.Laws.{no-zero-drop, degree-drop}
 use Rattle.theory.specs.ShapeWord.{shape_of, good_shape}
 use Rattle.theory.specs.Character.{◌on◌}
 use Rattle.theory.specs.Hooks.{hook_words}
-use Rattle.theory.specs.Hooks.Words.{Left, hooks-leave}
+use Rattle.theory.specs.Hooks.Words.{Left}
+use Rattle.theory.proofs.Hooks.Words.{hooks-leave}
 use Rattle.theory.specs.Listing.{start}
-use Rattle.theory.specs.Listing.Words.{start-rises, index, indexed, ranked-at}
+use Rattle.theory.proofs.Listing.Words.{start-rises, index, indexed, ranked-at}
 use Rattle.theory.specs.Refusals.Laws.{Within}
 use Rattle.words.proofs.PartLists.{next-left, degree-left}
 use Rattle.listing.specs.Calls.{words_within}

@@ -10,12 +10,13 @@ use native.Mathlib.Omega.{arith}
 use lib.ListN.{length-map}
 use borrow.Author.Tests.{leb-true}
 use Rattle.theory.specs.Basics.{true, List, [], ◌∷◌, map, ℕ, suc, ◌+◌, ◌*◌, ◌/◌, ◌%◌, ◌^◌, get_or, ◌≤?◌, every, length}
-use Rattle.theory.specs.Basics.AtPlace.{every-at, map_at, tabled, tabled-at}
+use Rattle.theory.specs.Basics.AtPlace.{tabled}
+use Rattle.theory.proofs.Basics.AtPlace.{every-at, map_at, tabled-at}
 use Rattle.theory.specs.Digits.{word}
 use Rattle.theory.specs.ShapeWord.{good_shape}
-use Rattle.theory.specs.ShapeWord.Good.{good-shape, shape-good}
+use Rattle.theory.proofs.ShapeWord.Good.{good-shape, shape-good}
 use Rattle.theory.specs.Listing.{listing, partitions, words_below}
-use Rattle.theory.specs.Listing.Words.{index, Indexed, indexed}
+use Rattle.theory.proofs.Listing.Words.{index, Indexed, indexed}
 use Rattle.theory.specs.Limits.{degree_limit}
 use Rattle.theory.specs.Bounds.Laws.{largest_limit}
 use Rattle.theory.specs.Refusals.Laws.{Within}

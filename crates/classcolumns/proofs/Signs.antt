@@ -6,8 +6,8 @@ use mir.Facts.{to_z-of_z}
 use mir.Syntax.{w64}
 use mir.Val.{SFits}
 use Rattle.theory.specs.Basics.{Bool, ℤ, pos, ◌*ℤ◌, nat_abs, signed, ◌^◌}
-use Rattle.theory.specs.Basics.Integers.Products.{times-signed, times-one}
-use Rattle.theory.specs.Bounds.Laws.{abs-signed}
+use Rattle.theory.proofs.Basics.Integers.Products.{times-signed, times-one}
+use Rattle.theory.proofs.Bounds.Laws.{abs-signed}
 use Rattle.pages.proofs.Signed.{carried, carried-is, room}
 
 module _ (minus : Bool) (z : ℤ) (small : nat_abs z < 2 ^ 63) where

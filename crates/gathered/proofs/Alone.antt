@@ -10,8 +10,8 @@ use Rattle.theory.specs.Basics.{true, false, List, [], ◌∷◌, length, replic
 use Rattle.theory.specs.Basics.{◌=?◌, every}
 use Rattle.theory.specs.Digits.{bit}
 use Rattle.theory.specs.Limits.{page_limit}
-use Rattle.theory.specs.ShapeWord.Good.{good-shape}
-use Rattle.theory.specs.ClassWord.Laws.{good-class}
+use Rattle.theory.proofs.ShapeWord.Good.{good-shape}
+use Rattle.theory.proofs.ClassWord.Laws.{good-class}
 use Rattle.theory.specs.Refusals.{first_of}
 use Rattle.pages.specs.Page.{line_of}
 use Rattle.pages.specs.Page.Words.{unit-weight}

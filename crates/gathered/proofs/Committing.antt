@@ -9,17 +9,17 @@ use borrow.Author.Tests.{le-leb, lt-leb, eqb-false}
 use lib.Seq.{length-take-le, get_or-take}
 use Rattle.theory.specs.Basics.{Bool, true, false, cond, List, [], ◌∷◌, ◌++◌, map, length, get_or, take, ℕ}
 use Rattle.theory.specs.Basics.{◌+◌}
-use Rattle.theory.specs.Basics.{◌^◌, ℤ, pos, ◌+ℤ◌, nat_abs, ◌<?◌, every, sum}
-use Rattle.theory.specs.Basics.AtPlace.{each_at}
-use Rattle.theory.specs.Basics.Laws.{both, Each, each_same}
-use Rattle.theory.specs.Basics.Keep.{every-each}
+use Rattle.theory.specs.Basics.{◌^◌, ℤ, pos, ◌+ℤ◌, nat_abs, ◌<?◌, every, sum, Each}
+use Rattle.theory.proofs.Basics.AtPlace.{each_at}
+use Rattle.theory.proofs.Basics.Laws.{both, each_same}
+use Rattle.theory.proofs.Basics.Keep.{every-each}
 use Rattle.theory.specs.Partition.{times}
 use Rattle.theory.specs.ClassWord.{class_of}
 use Rattle.theory.specs.Bounds.{factorial, S}
-use Rattle.theory.specs.Bounds.Laws.{S-rises, factorial-rises}
+use Rattle.theory.proofs.Bounds.Laws.{S-rises, factorial-rises}
 use Rattle.theory.specs.Limits.{degree_limit, page_limit}
 use Rattle.theory.specs.Refusals.{Check, first_of, no-8, no_9, no-10, no-19}
-use Rattle.theory.specs.Refusals.Laws.{none-applies, first-refuses, first_passes, or-refused}
+use Rattle.theory.proofs.Refusals.Laws.{none-applies, first-refuses, first_passes, or-refused}
 use Rattle.words.specs.Answers.{Outcome}
 use Rattle.pages.specs.Line.{Line}
 use Rattle.pages.specs.Line.Hooks.{Has}

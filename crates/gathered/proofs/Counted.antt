@@ -12,9 +12,10 @@ use lib.ListN.{length-append}
 use lib.Seq.{split_at}
 use Rattle.theory.specs.Basics.{Bool, true, false, not, cond, ◌&&◌, List, [], ◌∷◌, ◌++◌, map, length, take, drop}
 use Rattle.theory.specs.Basics.{ℕ, zero, suc, ◌+◌, ◌-◌, ℤ, pos, ◌+ℤ◌, nat_abs, ◌=?◌, keep, every, total, sum}
-use Rattle.theory.specs.Basics.Laws.{Each, each_same, map_same}
-use Rattle.theory.specs.Basics.AtPlace.{every-at}
-use Rattle.theory.specs.Basics.Keep.{every-each, keep_append, keep_same}
+use Rattle.theory.specs.Basics.{Each}
+use Rattle.theory.proofs.Basics.Laws.{each_same, map_same}
+use Rattle.theory.proofs.Basics.AtPlace.{every-at}
+use Rattle.theory.proofs.Basics.Keep.{every-each, keep_append, keep_same}
 use Rattle.pages.specs.Line.{Line}
 use Rattle.pages.specs.Page.{line_of, line_at}
 use Rattle.pages.specs.Page.Words.{map-take, map-drop}

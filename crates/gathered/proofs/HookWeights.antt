@@ -8,20 +8,21 @@ use native.Mathlib.Omega.{arith}
 use borrow.Author.Tests.{eqb-true, ne_eqb}
 use lib.Signed.{non_neg}
 use Rattle.theory.specs.Basics.{Bool, true, false, not, List, [], ◌∷◌, map, ℕ, ◌*◌}
-use Rattle.theory.specs.Basics.{pos, ◌*ℤ◌, nat_abs, signed, ◌=?◌, keep, every, sum}
-use Rattle.theory.specs.Basics.Laws.{both, Each, each_same, each_member, map_same, sum_same, sum-map}
-use Rattle.theory.specs.Basics.Keep.{each-every, each-kept, keep-map}
-use Rattle.theory.specs.Basics.Integers.Products.{times-sums, times-signed, times-one}
+use Rattle.theory.specs.Basics.{pos, ◌*ℤ◌, nat_abs, signed, ◌=?◌, keep, every, sum, Each}
+use Rattle.theory.proofs.Basics.Laws.{both, each_same, each_member, map_same, sum_same, sum-map}
+use Rattle.theory.proofs.Basics.Keep.{each-every, each-kept, keep-map}
+use Rattle.theory.proofs.Basics.Integers.Products.{times-sums, times-signed, times-one}
 use Rattle.theory.specs.Partition.{degree, without}
 use Rattle.theory.specs.ShapeWord.{shape_of}
-use Rattle.theory.specs.ShapeWord.Good.{good-shape}
+use Rattle.theory.proofs.ShapeWord.Good.{good-shape}
 use Rattle.theory.specs.ClassWord.{class_of, class_word}
-use Rattle.theory.specs.ClassWord.Laws.{good-class}
+use Rattle.theory.proofs.ClassWord.Laws.{good-class}
 use Rattle.theory.specs.Digits.{bit}
-use Rattle.theory.specs.Bounds.Laws.{abs-signed}
+use Rattle.theory.proofs.Bounds.Laws.{abs-signed}
 use Rattle.theory.specs.Hooks.{Hook, hook_words}
-use Rattle.theory.specs.Hooks.Words.{Left, hooks-leave}
-use Rattle.theory.specs.Hooks.Apart.{Apart, hooks-apart}
+use Rattle.theory.specs.Hooks.Words.{Left}
+use Rattle.theory.proofs.Hooks.Words.{hooks-leave}
+use Rattle.theory.proofs.Hooks.Apart.{Apart, hooks-apart}
 use Rattle.pages.specs.Line.{Line, hook_line, hook_lines}
 use Rattle.pages.specs.Line.Hooks.{Has, HookLine, hook-lines, hook-line-class}
 use Rattle.pages.specs.Line.Weights.{weight_of}

@@ -13,8 +13,8 @@ use Rattle.theory.specs.Basics.{drop, replicate}
 use Rattle.theory.specs.Basics.{ℕ, zero, suc, ◌+◌, ◌-◌, ◌/◌, ◌%◌, ◌^◌, ℤ, pos, ◌+ℤ◌, nat_abs, ◌=?◌, ◌<?◌, keep}
 use Rattle.theory.specs.Basics.{every}
 use Rattle.theory.specs.Basics.{total, sum}
-use Rattle.theory.specs.Basics.Laws.{both, each_same, each_member, map_same}
-use Rattle.theory.specs.Basics.Keep.{same_test, length-keep}
+use Rattle.theory.proofs.Basics.Laws.{both, each_same, each_member, map_same}
+use Rattle.theory.proofs.Basics.Keep.{same_test, length-keep}
 use Rattle.words.specs.Answers.{Outcome}
 use Rattle.pages.specs.Line.{Line}
 use Rattle.pages.specs.Page.{padded}

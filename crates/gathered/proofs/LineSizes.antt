@@ -2,8 +2,8 @@
 use mathlib.Core.Path.{◌≡◌}
 use Prim.Native.Nat.{◌≤◌, ◌<◌}
 use native.Mathlib.Omega.{arith}
-use Rattle.theory.specs.Basics.{List, [], ◌∷◌, length, ℕ, zero, suc, ◌+◌, ◌^◌, ℤ, nat_abs}
-use Rattle.theory.specs.Basics.Laws.{Each, each_same}
+use Rattle.theory.specs.Basics.{List, [], ◌∷◌, length, ℕ, zero, suc, ◌+◌, ◌^◌, ℤ, nat_abs, Each}
+use Rattle.theory.proofs.Basics.Laws.{each_same}
 use Rattle.pages.specs.Line.{Line}
 use Rattle.pages.specs.Mode.{alongside}
 use Rattle.pages.specs.Sound.{line_value}

@@ -14,7 +14,7 @@ use lib.Seq.{sets, drop-cons, set_at, set_out, append_snoc, get_or-set_same, get
 use Rattle.theory.specs.Basics.{Bool, true, false, cond, List, [], ◌∷◌, ◌++◌, map, length, get_or, set, drop}
 use Rattle.theory.specs.Basics.{replicate, ℕ, zero}
 use Rattle.theory.specs.Basics.{suc, ◌+◌, ◌-◌, ◌*◌, ◌^◌, ℤ, pos, ◌+ℤ◌, nat_abs, ◌=?◌, ◌<?◌}
-use Rattle.theory.specs.Bounds.Laws.{abs-add}
+use Rattle.theory.proofs.Bounds.Laws.{abs-add}
 use Rattle.gathered.specs.Private.Joining.{place, Small, saved_at, saved_by, raised, picked}
 
 -- ---- a word looked for

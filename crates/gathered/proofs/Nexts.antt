@@ -10,9 +10,9 @@ use lib.ListN.{length-append, length-map, length-drop, length-replicate, length-
 use lib.Seq.{length-take-le, sets, set_at, append_snoc}
 use Rattle.theory.specs.Basics.{true, List, [], ◌∷◌, ◌++◌, map, length, set, take, drop, replicate, ℕ, zero, suc, ◌+◌}
 use Rattle.theory.specs.Basics.{◌-◌}
-use Rattle.theory.specs.Basics.{ℤ, pos, negsuc, nat_abs, ◌=?◌, keep, every}
-use Rattle.theory.specs.Basics.Laws.{both, Each, each_same}
-use Rattle.theory.specs.Basics.Keep.{every-each, length-keep}
+use Rattle.theory.specs.Basics.{ℤ, pos, negsuc, nat_abs, ◌=?◌, keep, every, Each}
+use Rattle.theory.proofs.Basics.Laws.{both, each_same}
+use Rattle.theory.proofs.Basics.Keep.{every-each, length-keep}
 use Rattle.words.specs.Answers.{Outcome}
 use Rattle.pages.specs.Line.{Line}
 use Rattle.pages.specs.Page.{word_of}

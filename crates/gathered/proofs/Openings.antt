@@ -11,7 +11,7 @@ use Rattle.theory.specs.Limits.{page_limit}
 use Rattle.theory.specs.Partition.{degree}
 use Rattle.theory.specs.ShapeWord.{shape_of, good_word}
 use Rattle.theory.specs.Refusals.{Check, first_of, refused_or, pair_checks, no-6, no-10}
-use Rattle.theory.specs.Refusals.Laws.{first_passes, or-refused, or-given, none-applies, answer-number}
+use Rattle.theory.proofs.Refusals.Laws.{first_passes, or-refused, or-given, none-applies, answer-number}
 use Rattle.words.specs.Answers.{Outcome}
 use Rattle.pages.specs.Line.{Line}
 use Rattle.pages.specs.declared.Slip.{Slip}

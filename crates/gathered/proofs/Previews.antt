@@ -8,7 +8,7 @@ use Rattle.theory.specs.Basics.{List, [], ◌∷◌, ◌++◌, map, length, ℕ,
 use Rattle.theory.specs.Limits.{page_limit}
 use Rattle.theory.specs.ClassWord.{class_of}
 use Rattle.theory.specs.Refusals.{Check, first_of, refused_or, no-8, no_9, no-18}
-use Rattle.theory.specs.Refusals.Laws.{first-refuses, first_passes, or-refused}
+use Rattle.theory.proofs.Refusals.Laws.{first-refuses, first_passes, or-refused}
 use Rattle.words.specs.Answers.{Outcome, count_answer, at_front}
 use Rattle.words.specs.declared.CountAnswer.{CountAnswer}
 use Rattle.pages.specs.Line.{Line}

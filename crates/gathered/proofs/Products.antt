@@ -5,7 +5,7 @@ use mir.Facts.{to_z-of_z}
 use mir.Syntax.{w64}
 use mir.Val.{SFits}
 use Rattle.theory.specs.Basics.{ℤ, ◌*ℤ◌, nat_abs, ◌*◌, ◌^◌}
-use Rattle.theory.specs.Basics.Integers.Products.{abs-times}
+use Rattle.theory.proofs.Basics.Integers.Products.{abs-times}
 use Rattle.pages.proofs.Signed.{carried, room}
 
 module _ (x y : ℤ) (fits-x : SFits w64 x) (fits-y : SFits w64 y) (small : nat_abs x * nat_abs y < 2 ^ 63) where

@@ -4,7 +4,7 @@ use Prim.Native.Nat.{◌≤◌, ◌<◌}
 use Rattle.theory.specs.Basics.{[], ◌∷◌, ℕ, ℤ}
 use Rattle.theory.specs.Limits.{page_limit}
 use Rattle.theory.specs.Refusals.{first_of, no-8, no-15}
-use Rattle.theory.specs.Refusals.Laws.{first_passes}
+use Rattle.theory.proofs.Refusals.Laws.{first_passes}
 use Rattle.pages.specs.declared.Slip.{Slip}
 use Rattle.pages.specs.Page.{line_of}
 use Rattle.pages.specs.Mode.{weighted}

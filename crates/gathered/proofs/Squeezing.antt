@@ -11,7 +11,7 @@ use lib.Seq.{take-suc, take_all, get_or_at, length-take-le}
 use Rattle.theory.specs.Basics.{List, [], ◌∷◌, ◌++◌, map, length, get_or, set, take, drop, replicate, ℕ}
 use Rattle.theory.specs.Basics.{suc}
 use Rattle.theory.specs.Basics.{◌+◌, ◌-◌, ℤ, pos, nat_abs, keep}
-use Rattle.theory.specs.Basics.Keep.{keep_append}
+use Rattle.theory.proofs.Basics.Keep.{keep_append}
 use Rattle.words.specs.Answers.{Outcome}
 use Rattle.pages.specs.Line.{Line}
 use Rattle.pages.specs.Page.{word_of}

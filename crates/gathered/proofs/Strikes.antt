@@ -12,18 +12,18 @@ use lib.ListN.{length-map}
 use lib.Seq.{sets, sets-eq, length-sets, take_at}
 use Rattle.theory.specs.Basics.{false, List, [], ◌∷◌, ◌++◌, map, length, take, ℕ, ◌+◌, ◌-◌, ◌*◌}
 use Rattle.theory.specs.Basics.{◌^◌, ℤ, pos}
-use Rattle.theory.specs.Basics.{◌+ℤ◌, ◌*ℤ◌, nat_abs, sum, ◌=?◌}
-use Rattle.theory.specs.Basics.Integers.Products.{abs-times}
-use Rattle.theory.specs.Basics.Laws.{Each, each_same}
-use Rattle.theory.specs.Bounds.Laws.{factorial-positive}
+use Rattle.theory.specs.Basics.{◌+ℤ◌, ◌*ℤ◌, nat_abs, sum, ◌=?◌, Each}
+use Rattle.theory.proofs.Basics.Integers.Products.{abs-times}
+use Rattle.theory.proofs.Basics.Laws.{each_same}
+use Rattle.theory.proofs.Bounds.Laws.{factorial-positive}
 use Rattle.theory.specs.Limits.{degree_limit}
 use Rattle.theory.specs.Partition.{times}
-use Rattle.theory.specs.ShapeWord.Good.{good-shape}
+use Rattle.theory.proofs.ShapeWord.Good.{good-shape}
 use Rattle.theory.specs.ClassWord.{class_of}
-use Rattle.theory.specs.ClassWord.Laws.{good-class}
+use Rattle.theory.proofs.ClassWord.Laws.{good-class}
 use Rattle.theory.specs.Refusals.{Check, first_of, no-8, no_9, no-10, no-19}
-use Rattle.theory.specs.Refusals.Laws.{none-applies, first-refuses, first_passes, both-pass, answer-number}
-use Rattle.theory.specs.Refusals.Laws.{answer-given}
+use Rattle.theory.proofs.Refusals.Laws.{none-applies, first-refuses, first_passes, both-pass, answer-number}
+use Rattle.theory.proofs.Refusals.Laws.{answer-given}
 use Rattle.words.specs.Answers.{Outcome}
 use Rattle.words.proofs.Factorials.{factorial-fits}
 use Rattle.pages.specs.Line.{Line, line_degree}

@@ -3,15 +3,15 @@ use mathlib.Core.Path.{◌≡◌, ◌∙◌, ap, ap₂}
 use Prim.Native.Nat.{◌≤◌, ◌<◌}
 use native.Mathlib.Omega.{arith}
 use Rattle.theory.specs.Basics.{ℕ, ◌*◌, ◌^◌, ℤ, pos, ◌*ℤ◌, nat_abs}
-use Rattle.theory.specs.Basics.Integers.Products.{abs-times}
+use Rattle.theory.proofs.Basics.Integers.Products.{abs-times}
 use Rattle.theory.specs.Bounds.Laws.{largest_limit}
 use Rattle.theory.specs.ShapeWord.{shape_of}
-use Rattle.theory.specs.ShapeWord.Good.{good-shape}
+use Rattle.theory.proofs.ShapeWord.Good.{good-shape}
 use Rattle.theory.specs.ClassWord.{class_of}
-use Rattle.theory.specs.ClassWord.Laws.{good-class}
+use Rattle.theory.proofs.ClassWord.Laws.{good-class}
 use Rattle.theory.specs.Character.{◌on◌}
 use Rattle.theory.specs.Refusals.{first_of, pair_checks}
-use Rattle.theory.specs.Refusals.Laws.{or-given, pair-passes}
+use Rattle.theory.proofs.Refusals.Laws.{or-given, pair-passes}
 use Rattle.words.specs.Answers.{number_answer}
 use Rattle.words.specs.declared.NumberAnswer.{NumberAnswer}
 use Rattle.words.proofs.Factorials.{factorial-fits}

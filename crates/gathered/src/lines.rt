@@ -1,7 +1,6 @@
 // Lines with coefficients (document 02, P7, "Watches 1 and 4 multiply by the coefficient"): weighed, and summed.
 ghost use Rattle.std.specs.Prelude.{◌≡◌, ◌<◌, ◌^◌};
-ghost use Rattle.theory.specs.Basics.{length, sum as sum_of};
-ghost use Rattle.theory.specs.Basics.Laws.{Each};
+ghost use Rattle.theory.specs.Basics.{length, sum as sum_of, Each};
 ghost use Rattle.theory.specs.Limits.{degree_limit};
 ghost use Rattle.pages.specs.Line.{signed_character};
 ghost use Rattle.pages.specs.Mode.{weighted, alongside};

@@ -8,13 +8,13 @@ use borrow.Author.Tests.{le-ltb, ltb-false}
 use Rattle.theory.specs.Basics.{[], ◌∷◌, ℕ, suc, ◌+◌, get_or, length}
 use Rattle.theory.specs.Partition.{degree}
 use Rattle.theory.specs.ShapeWord.{shape_of}
-use Rattle.theory.specs.ShapeWord.Good.{shape-good}
+use Rattle.theory.proofs.ShapeWord.Good.{shape-good}
 use Rattle.theory.specs.Listing.{listing, partitions, rank, words_below, start}
-use Rattle.theory.specs.Listing.Words.{start-next, start-within, word_at, word-ranked}
-use Rattle.theory.specs.Listing.Words.{Indexed, indexed}
+use Rattle.theory.proofs.Listing.Words.{start-next, start-within, word_at, word-ranked, Indexed, indexed}
 use Rattle.theory.specs.Bounds.Laws.{largest_limit}
 use Rattle.theory.specs.Refusals.{first_of, no-12}
-use Rattle.theory.specs.Refusals.Laws.{answer-number, none-applies, Within}
+use Rattle.theory.specs.Refusals.Laws.{Within}
+use Rattle.theory.proofs.Refusals.Laws.{answer-number, none-applies}
 use Rattle.listing.specs.declared.SectionAnswer.{SectionAnswer}
 use Rattle.listing.specs.Calls.{section_answer, section_of, words_within}
 use Rattle.listing.specs.Private.Tables.{shape_words, word_count}

@@ -9,16 +9,16 @@ use lib.ListN.{length-replicate}
 use borrow.Author.Tests.{le-ltb, le-leb, lt-leb, ltb-false, leb-false}
 use Rattle.theory.specs.Basics.{true, List, [], ◌∷◌, ℕ, ℤ, pos, length, get_or, take, replicate}
 use Rattle.theory.specs.Partition.{Parts, is_partition, degree}
-use Rattle.theory.specs.Partition.Laws.{length-degree}
+use Rattle.theory.proofs.Partition.Laws.{length-degree}
 use Rattle.theory.specs.ShapeWord.{shape_word, shape_of}
-use Rattle.theory.specs.ShapeWord.Good.{good-shape}
-use Rattle.theory.specs.ShapeWord.Words.{small-has-room, word_back, rows-good}
+use Rattle.theory.proofs.ShapeWord.Good.{good-shape}
+use Rattle.theory.proofs.ShapeWord.Words.{small-has-room, word_back, rows-good}
 use Rattle.theory.specs.ClassWord.{class_word, class_of}
 use Rattle.theory.specs.Listing.{listing, rank}
-use Rattle.theory.specs.Listing.Ranks.{AtRank, at-rank}
+use Rattle.theory.proofs.Listing.Ranks.{AtRank, at-rank}
 use Rattle.theory.specs.Refusals.{first_of, no-11, no-12, shape_checks, class_checks}
 use Rattle.theory.specs.Bounds.Laws.{largest_limit}
-use Rattle.theory.specs.Refusals.Laws.{shape-passes, within-class, none-applies, first-refuses}
+use Rattle.theory.proofs.Refusals.Laws.{shape-passes, within-class, none-applies, first-refuses}
 use Rattle.words.specs.Answers.{Outcome, word_answer, number_answer}
 use Rattle.words.specs.declared.CountAnswer.{CountAnswer}
 use Rattle.words.specs.declared.NumberAnswer.{NumberAnswer}

@@ -9,7 +9,7 @@ use lib.ListN.{take-append-drop}
 use lib.Seq.{take-suc, take_all}
 use Rattle.theory.specs.Basics.{Bool, true, false, not, ◌&&◌, List, [], ◌∷◌, ◌++◌, length, get_or, take, drop}
 use Rattle.theory.specs.Basics.{every, ℕ, suc, ◌+◌, ◌=?◌}
-use Rattle.theory.specs.Basics.Laws.{both}
+use Rattle.theory.proofs.Basics.Laws.{both}
 use Rattle.pages.specs.Private.Differences.{all_different, absent}
 
 -- ---- one word more at the end

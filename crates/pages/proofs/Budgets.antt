@@ -10,7 +10,7 @@ use lib.Seq.{drop-cons}
 use lib.Signed.{non_neg}
 use Rattle.theory.specs.Basics.{Bool, true, false, cond, ◌&&◌, List, ◌∷◌, map, length, get_or, drop, ℕ, ◌+◌, ◌-◌}
 use Rattle.theory.specs.Basics.{◌*◌, nat_abs, ◌≤?◌}
-use Rattle.theory.specs.Basics.Laws.{both}
+use Rattle.theory.proofs.Basics.Laws.{both}
 use Rattle.theory.specs.Bounds.{factorial, S}
 use Rattle.theory.specs.ShapeWord.{good_shape}
 use Rattle.theory.specs.Refusals.{first_of, pair_checks}

@@ -12,7 +12,7 @@ use lib.ListN.{length-set, length-replicate}
 use lib.Seq.{get_or-set_same, get_or-set_other}
 use Rattle.theory.specs.Basics.{false, not, ◌&&◌, List, length, get_or, set, take, replicate, Each}
 use Rattle.theory.specs.Basics.{ℕ, zero, suc, ◌+◌, ◌-◌, ◌%◌, ◌=?◌}
-use Rattle.theory.specs.Basics.AtPlace.{each_at}
+use Rattle.theory.proofs.Basics.AtPlace.{each_at}
 use Rattle.theory.specs.Limits.{page_limit}
 use Rattle.pages.specs.Private.Differences.{absent, few_chains, many_chains, chain_of, latest, Chained, Walk, Room}
 use Rattle.pages.proofs.AllDifferent.{absent-last}

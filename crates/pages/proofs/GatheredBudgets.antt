@@ -10,12 +10,12 @@ use native.Mathlib.Omega.{arith}
 use borrow.Author.Tests.{le-ltb, ltb-true, ltb-false, le-leb, leb-true, lt-leb, leb-false, eqb-false, not-true}
 use Rattle.theory.specs.Basics.{Bool, true, false, not, cond, ◌&&◌, List, [], ◌∷◌, map, length, ℕ, ◌+◌, ◌-◌}
 use Rattle.theory.specs.Basics.{◌*◌, ◌/◌, ◌^◌, ℤ, nat_abs, ◌=?◌, ◌≤?◌, ◌<?◌, every}
-use Rattle.theory.specs.Basics.Laws.{both}
-use Rattle.theory.specs.Basics.Keep.{same_test}
+use Rattle.theory.proofs.Basics.Laws.{both}
+use Rattle.theory.proofs.Basics.Keep.{same_test}
 use Rattle.theory.specs.Bounds.{factorial}
 use Rattle.theory.specs.Partition.{degree}
 use Rattle.theory.specs.ShapeWord.{shape_width, shape_of}
-use Rattle.theory.specs.ShapeWord.Good.{good-shape}
+use Rattle.theory.proofs.ShapeWord.Good.{good-shape}
 use Rattle.theory.specs.Refusals.Laws.{Within}
 use Rattle.pages.specs.Line.{Line, line_degree}
 use Rattle.pages.specs.Gathering.{lasting}

@@ -13,7 +13,7 @@ use borrow.Author.Tests.{lt-ltb, le-ltb, ltb-true}
 use mir.Facts.{to_z-of_z}
 use mir.Syntax.{w64}
 use mir.Val.{SFits, to_z, of_z}
-use Rattle.theory.specs.Bounds.Laws.{abs-add, abs_neg}
+use Rattle.theory.proofs.Bounds.Laws.{abs-add, abs_neg}
 
 abbrev pub carried : ℤ → ℤ
 carried z = to_z w64 (of_z w64 z)

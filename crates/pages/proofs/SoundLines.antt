@@ -4,8 +4,8 @@ use Prim.Native.Nat.{◌≤◌, ◌<◌}
 use native.Mathlib.Decide.{ℕ_discrete}
 use native.Mathlib.Omega.{arith}
 use Rattle.theory.specs.Basics.{Bool, true, false, cond, ℕ}
-use Rattle.theory.specs.ShapeWord.Good.{good-shape, shape-good}
-use Rattle.theory.specs.ClassWord.Laws.{good-class, class-good}
+use Rattle.theory.proofs.ShapeWord.Good.{good-shape, shape-good}
+use Rattle.theory.proofs.ClassWord.Laws.{good-class, class-good}
 use Rattle.theory.specs.Refusals.Laws.{Within, WithinClass}
 use Rattle.pages.specs.Line.{Line, line_degree}
 use Rattle.pages.specs.Sound.{sound_line}

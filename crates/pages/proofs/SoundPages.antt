@@ -7,7 +7,7 @@ use borrow.Author.Tests.{lt-ltb, le-ltb, lt-leb, le-leb, eq-eqb, ne_eqb}
 use lib.ListN.{get_or-map, length-map}
 use lib.Seq.{length-take-le, get_or-take}
 use Rattle.theory.specs.Basics.{Bool, true, false, ◌&&◌, List, length, get_or, take, drop, ℕ, ◌=?◌, every}
-use Rattle.theory.specs.Basics.AtPlace.{each_at}
+use Rattle.theory.proofs.Basics.AtPlace.{each_at}
 use Rattle.theory.specs.Limits.{page_limit}
 use Rattle.theory.specs.Refusals.{first_of}
 use Rattle.pages.specs.Page.{line_of, line_at, Slip}

@@ -3,7 +3,7 @@ use mathlib.Core.Path.{◌≡◌, refl}
 use Prim.Native.Nat.{◌≤◌}
 use native.Mathlib.Omega.{arith}
 use Rattle.theory.specs.Basics.{List, [], ◌∷◌, get_or, ℕ}
-use Rattle.theory.specs.Basics.AtPlace.{tabled-at}
+use Rattle.theory.proofs.Basics.AtPlace.{tabled-at}
 use Rattle.theory.specs.Limits.{degree_limit}
 use Rattle.theory.specs.Bounds.{factorial, S}
 use Rattle.words.proofs.Factorials.{factorials, factorials-tabled}

@@ -9,8 +9,8 @@ use lib.ListN.{drop_of_length-le}
 use lib.Seq.{drop-cons}
 use Rattle.theory.specs.Basics.{Bool, true, false, not, ◌&&◌, List, [], ◌∷◌, length, get_or, drop, ℕ, ◌+◌, ◌-◌}
 use Rattle.theory.specs.Basics.{◌/◌, ◌%◌, ◌^◌, ℤ, pos, nat_abs, ◌=?◌, ◌≤?◌, ◌<?◌, every}
-use Rattle.theory.specs.Basics.Laws.{both}
-use Rattle.theory.specs.Basics.Keep.{same_test}
+use Rattle.theory.proofs.Basics.Laws.{both}
+use Rattle.theory.proofs.Basics.Keep.{same_test}
 use Rattle.theory.specs.Digits.{bit}
 use Rattle.pages.specs.Gathering.{alike, distinct}
 use Rattle.pages.specs.Mode.{weighted, alongside}

@@ -6,17 +6,18 @@ use native.Mathlib.Omega.{arith}
 use lib.ListN.{set}
 use Rattle.theory.specs.Basics.{Bool, true, false, cond, List, [], ◌∷◌, replicate, Each, ℕ, zero, suc, ◌*◌, ◌+◌, pos}
 use Rattle.theory.specs.Basics.{nat_abs, get_or, length, ◌/◌, ◌%◌}
-use Rattle.theory.specs.Basics.AtPlace.{each_at}
+use Rattle.theory.proofs.Basics.AtPlace.{each_at}
 use Rattle.theory.specs.Digits.{digits}
 use Rattle.theory.specs.Partition.{degree}
 use Rattle.theory.specs.ShapeWord.{shape_of, good_shape}
-use Rattle.theory.specs.ShapeWord.Good.{shape-good}
-use Rattle.theory.specs.ShapeWord.InFront.{dropped-shape, good-kept}
+use Rattle.theory.proofs.ShapeWord.Good.{shape-good}
+use Rattle.theory.proofs.ShapeWord.InFront.{dropped-shape, good-kept}
 use Rattle.theory.specs.ClassWord.{class_of}
 use Rattle.theory.specs.Limits.{degree_limit}
 use Rattle.theory.specs.Bounds.Laws.{largest_limit}
 use Rattle.theory.specs.Refusals.{first_of, refused_or, shape_checks, class_checks}
-use Rattle.theory.specs.Refusals.Laws.{made_of, Within, within, shape-passes, WithinClass, within-class, class-passes}
+use Rattle.theory.specs.Refusals.Laws.{Within, WithinClass}
+use Rattle.theory.proofs.Refusals.Laws.{made_of, within, shape-passes, within-class, class-passes}
 use Rattle.words.specs.Answers.{number_answer}
 use Rattle.words.specs.declared.NumberAnswer.{NumberAnswer}
 use Rattle.words.specs.declared.ShapeReading.{ShapeReading}

@@ -3,7 +3,7 @@
 --   Lawful m    the laws of the mode m; Written l, that the line l can be written down
 use Rattle.std.specs.Prelude.{◌≡◌, ◌≤◌, ◌<◌}
 use Rattle.theory.specs.Basics.{true, List, [], ◌∷◌, ◌++◌, length, take, drop, ℕ, suc, ◌+◌, ◌^◌, ◌+ℤ◌, nat_abs, sum}
-use Rattle.theory.specs.Basics.Laws.{Each}
+use Rattle.theory.specs.Basics.{Each}
 use Rattle.theory.specs.Limits.{page_limit}
 use Rattle.theory.specs.Refusals.{first_of}
 use Rattle.theory.specs.Refusals.Laws.{Numbered}

@@ -9,10 +9,11 @@ use borrow.Author.Tests.{eq-eqb, ne_eqb}
 use Rattle.theory.specs.Basics.{Bool, true, false, cond, [], ◌∷◌, ℕ, ◌=?◌, pos}
 use Rattle.theory.specs.Partition.{degree}
 use Rattle.theory.specs.ShapeWord.{shape_of, good_word}
-use Rattle.theory.specs.ShapeWord.InFront.{dropped-shape}
+use Rattle.theory.proofs.ShapeWord.InFront.{dropped-shape}
 use Rattle.theory.specs.ClassWord.{class_of}
 use Rattle.theory.specs.Refusals.{first_of, class_checks, pair_checks, no-1, no-2, no-3, no-4, no-5}
-use Rattle.theory.specs.Refusals.Laws.{or-given, answer-number, Matched, matched}
+use Rattle.theory.specs.Refusals.Laws.{Matched}
+use Rattle.theory.proofs.Refusals.Laws.{or-given, answer-number, matched}
 use Rattle.words.specs.declared.NumberAnswer.{NumberAnswer}
 use Rattle.words.specs.Answers.Laws.{numbered-refusal}
 use Rattle.words.specs.declared.ShapeReading.{ShapeReading}

@@ -11,10 +11,10 @@ use lib.Pow.{pow_mono, shl_lt}
 use Rattle.theory.specs.Basics.{true, false, [], ℕ, ◌+◌, ◌-◌, ◌*◌, ◌%◌, ◌^◌}
 use Rattle.theory.specs.Partition.{Parts, times, without}
 use Rattle.theory.specs.Digits.{word}
-use Rattle.theory.specs.Digits.Laws.{one_shifted, word_none, word_below}
+use Rattle.theory.proofs.Digits.Laws.{one_shifted, word_none, word_below}
 use Rattle.theory.specs.ClassWord.{class_digits, class_word, class_of}
-use Rattle.theory.specs.ClassWord.Laws.{class-word-front}
-use Rattle.theory.specs.ClassWord.Reading.{word_moved}
+use Rattle.theory.proofs.ClassWord.Laws.{class-word-front}
+use Rattle.theory.proofs.ClassWord.Reading.{word_moved}
 use Rattle.words.proofs.ClassLoops.{parts_left, next-part, no-parts-left}
 use Rattle.sessions.specs.Private.Striking.{without_cycle, class_without}
 

@@ -8,7 +8,7 @@ use Rattle.theory.specs.Basics.{false, List, [], ◌∷◌, length, replicate, �
 use Rattle.theory.specs.Limits.{page_limit}
 use Rattle.theory.specs.Partition.{degree}
 use Rattle.theory.specs.ShapeWord.{shape_of, good_word}
-use Rattle.theory.specs.ShapeWord.InFront.{dropped-shape}
+use Rattle.theory.proofs.ShapeWord.InFront.{dropped-shape}
 use Rattle.theory.specs.Refusals.{Check, first_of, pair_checks, no-10}
 use Rattle.words.specs.Answers.{Outcome}
 use Rattle.pages.specs.Page.{word_of, plain, slip_of, blank}

@@ -11,8 +11,7 @@ use lib.ListN.{set, length-append, length-drop, length-replicate, drop_of_length
 use lib.Seq.{take-take, take-set-lt, take-suc-set, drop-set-lt, drop-cons, append_snoc, get_or-take, set_split}
 use lib.Seq.{length-take-le, take_at, drop-append-add, sets, sets-eq}
 use Rattle.theory.specs.Basics.{Bool, true, false, List, [], ◌∷◌, ◌++◌, length, get_or, take, drop, replicate, ℕ, zero, suc, ◌+◌, ◌-◌}
-use Rattle.theory.specs.Basics.{same}
-use Rattle.theory.specs.Basics.Laws.{Each}
+use Rattle.theory.specs.Basics.{same, Each}
 use Rattle.sessions.specs.Private.Pages.{others, taken_out, Exchanges, exchanged}
 
 -- ---- words that are 0

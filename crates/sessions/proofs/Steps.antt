@@ -8,7 +8,7 @@ use Rattle.theory.specs.Basics.{Bool, true, false, not, List, [], ◌∷◌, get
 use Rattle.theory.specs.Partition.{times, without}
 use Rattle.theory.specs.ClassWord.{class_word, class_of}
 use Rattle.theory.specs.Refusals.{Check, first_of, no-8, no_9}
-use Rattle.theory.specs.Refusals.Laws.{first-refuses, first_passes, or-refused, answer-number, answer-given}
+use Rattle.theory.proofs.Refusals.Laws.{first-refuses, first_passes, or-refused, answer-number, answer-given}
 use Rattle.pages.specs.Line.{Line}
 use Rattle.pages.specs.declared.Slip.{Slip}
 use Rattle.pages.specs.Page.{line_of, line_at}

@@ -14,10 +14,11 @@ use Rattle.theory.specs.Basics.{◌-◌, ◌^◌, ℤ, pos, ◌+ℤ◌, nat_abs,
 use Rattle.theory.specs.Partition.{without}
 use Rattle.theory.specs.ClassWord.{class_word, class_of}
 use Rattle.theory.specs.Bounds.{S}
-use Rattle.theory.specs.Bounds.Laws.{S-rises, largest_limit}
+use Rattle.theory.specs.Bounds.Laws.{largest_limit}
+use Rattle.theory.proofs.Bounds.Laws.{S-rises}
 use Rattle.theory.specs.Refusals.{Check, first_of, no-10, no-18, no-19}
-use Rattle.theory.specs.Refusals.Laws.{none-applies, first-refuses, first_passes, or-refused, answer-number}
-use Rattle.theory.specs.Refusals.Laws.{answer-given}
+use Rattle.theory.proofs.Refusals.Laws.{none-applies, first-refuses, first_passes, or-refused, answer-number}
+use Rattle.theory.proofs.Refusals.Laws.{answer-given}
 use Rattle.words.specs.declared.CountAnswer.{CountAnswer}
 use Rattle.words.specs.Answers.{Outcome, count_answer, at_front}
 use Rattle.words.proofs.Factorials.{factorial-fits}

@@ -16,18 +16,20 @@ use borrow.Author.Tests.{eq-eqb, ne_eqb}
 use mir.Syntax.{w64}
 use mir.Val.{SFits}
 use Rattle.theory.specs.Basics.{Bool, true, false, not, List, [], ◌∷◌, map, length, ℕ, ◌+◌, ◌-◌, ◌*◌, ◌%◌, ◌^◌}
-use Rattle.theory.specs.Basics.{ℤ, pos, ◌+ℤ◌, nat_abs, keep, sum, signed}
-use Rattle.theory.specs.Basics.Laws.{Each, each_member, map_same}
-use Rattle.theory.specs.Partition.Laws.{without-degree}
+use Rattle.theory.specs.Basics.{ℤ, pos, ◌+ℤ◌, nat_abs, keep, sum, signed, Each}
+use Rattle.theory.proofs.Basics.Laws.{each_member, map_same}
+use Rattle.theory.proofs.Partition.Laws.{without-degree}
 use Rattle.theory.specs.Digits.{bit, width}
-use Rattle.theory.specs.ShapeWord.Good.{good-shape}
+use Rattle.theory.proofs.ShapeWord.Good.{good-shape}
 use Rattle.theory.specs.ClassWord.{class_of}
 use Rattle.theory.specs.Hooks.{Hook}
 use Rattle.theory.specs.Hooks.Marks.{marks, places, marked_hook}
-use Rattle.theory.specs.Hooks.Marks.Laws.{hooks-marked}
-use Rattle.theory.specs.Hooks.Marks.Walk.{Begun, highest, places-none, marks_begin}
-use Rattle.theory.specs.Hooks.Marks.Stretch.{stretch, zeros_odd, raised, hook_by, hook-stretched}
-use Rattle.theory.specs.Bounds.Laws.{abs-add, abs-signed, largest_limit}
+use Rattle.theory.proofs.Hooks.Marks.Laws.{hooks-marked}
+use Rattle.theory.proofs.Hooks.Marks.Walk.{Begun, highest, places-none, marks_begin}
+use Rattle.theory.specs.Hooks.Marks.Stretch.{stretch, zeros_odd, raised, hook_by}
+use Rattle.theory.proofs.Hooks.Marks.Stretch.{hook-stretched}
+use Rattle.theory.specs.Bounds.Laws.{largest_limit}
+use Rattle.theory.proofs.Bounds.Laws.{abs-add, abs-signed}
 use Rattle.words.specs.Answers.{Outcome}
 use Rattle.words.proofs.Columns.{Putting, put-start, put_next, put_all}
 use Rattle.pages.specs.Line.{Line, hook_line, hook_lines}

@@ -8,8 +8,7 @@ use native.Mathlib.Numerals.{add-one}
 use native.Mathlib.Omega.{arith}
 use lib.ListN.{set, length-set, drop_of_length-le}
 use lib.Seq.{sets}
-use Rattle.theory.specs.Basics.{true, false, List, [], ◌∷◌, map, ℕ, ◌+◌, ◌-◌, length, take, drop}
-use Rattle.theory.specs.Basics.Laws.{Each}
+use Rattle.theory.specs.Basics.{true, false, List, [], ◌∷◌, map, ℕ, ◌+◌, ◌-◌, length, take, drop, Each}
 use Rattle.theory.specs.Digits.{width}
 use Rattle.theory.specs.Limits.{degree_limit}
 use Rattle.theory.specs.Refusals.{first_of}

@@ -10,9 +10,9 @@ use native.Mathlib.Omega.{arith}
 use lib.ListN.{set, length-set, drop_of_length-le}
 use lib.Seq.{sets}
 use Rattle.theory.specs.Basics.{Bool, true, false, ◌&&◌, List, ◌∷◌, ℕ, ◌+◌, ◌-◌, ◌*◌, ◌/◌, ◌%◌, ◌^◌, ℤ, length}
-use Rattle.theory.specs.Basics.{take, drop}
-use Rattle.theory.specs.Basics.Keep.{same_test}
-use Rattle.theory.specs.Basics.Laws.{Each, both}
+use Rattle.theory.specs.Basics.{take, drop, Each}
+use Rattle.theory.proofs.Basics.Keep.{same_test}
+use Rattle.theory.proofs.Basics.Laws.{both}
 use Rattle.theory.specs.Digits.{width}
 use Rattle.theory.specs.ShapeWord.{shape_word}
 use Rattle.theory.specs.ClassWord.{class_word}

@@ -10,15 +10,15 @@ use lib.ListN.{length-append}
 use borrow.Author.Tests.{lt-ltb, le-ltb}
 use Rattle.theory.specs.Basics.{true, false, [], ◌∷◌, ◌++◌, map, ℕ, suc, ◌+◌, ◌-◌, ◌*◌, ◌^◌, length, joined}
 use Rattle.theory.specs.Partition.{Parts, is_partition, first}
-use Rattle.theory.specs.Partition.Laws.{front, first-degree, length-degree}
+use Rattle.theory.proofs.Partition.Laws.{front, first-degree, length-degree}
 use Rattle.theory.specs.Digits.{Digits, digits, ones, width}
-use Rattle.theory.specs.Digits.Low.{trailing-more}
+use Rattle.theory.proofs.Digits.Low.{trailing-more}
 use Rattle.theory.specs.ShapeWord.{rows, shape_of}
-use Rattle.theory.specs.ShapeWord.Reading.{ones-digits, first-digit}
-use Rattle.theory.specs.ShapeWord.Counts.{rows-trailing, rows-of-zero}
+use Rattle.theory.proofs.ShapeWord.Reading.{ones-digits, first-digit}
+use Rattle.theory.proofs.ShapeWord.Counts.{rows-trailing, rows-of-zero}
 use Rattle.theory.specs.ClassWord.{parts_after, class_of}
-use Rattle.theory.specs.ClassWord.Laws.{parts_none}
-use Rattle.theory.specs.ClassWord.Reading.{FirstPart, first_part}
+use Rattle.theory.proofs.ClassWord.Laws.{parts_none}
+use Rattle.theory.proofs.ClassWord.Reading.{FirstPart, first_part}
 use Rattle.theory.specs.Limits.{degree_limit}
 use Rattle.theory.specs.Refusals.Laws.{Within, WithinClass}
 use Rattle.text.specs.Text.{ascii, decimal, commas, list_text}

@@ -8,15 +8,16 @@ use lib.ListN.{length-drop}
 use lib.Seq.{drop-drop, take_all}
 use Rattle.theory.specs.Basics.{Bool, true, false, not, ◌&&◌, cond, List, [], ◌∷◌, ℕ, suc, ◌+◌, ◌-◌, ◌^◌, pos, ◌=?◌}
 use Rattle.theory.specs.Basics.{length}
-use Rattle.theory.specs.Basics.{get_or, take, drop, same, every, ◌<?◌}
-use Rattle.theory.specs.Basics.Keep.{same_test}
-use Rattle.theory.specs.Basics.Laws.{Each, same_lists}
+use Rattle.theory.specs.Basics.{get_or, take, drop, same, every, ◌<?◌, Each}
+use Rattle.theory.proofs.Basics.Keep.{same_test}
+use Rattle.theory.proofs.Basics.Laws.{same_lists}
 use Rattle.theory.specs.Partition.{degree}
 use Rattle.theory.specs.ShapeWord.{shape_word}
 use Rattle.theory.specs.ClassWord.{class_word}
 use Rattle.theory.specs.Limits.{degree_limit}
 use Rattle.theory.specs.Refusals.{Check, first_of}
-use Rattle.theory.specs.Refusals.Laws.{Numbered, none-applies, first_below}
+use Rattle.theory.specs.Refusals.Laws.{Numbered}
+use Rattle.theory.proofs.Refusals.Laws.{none-applies, first_below}
 use Rattle.text.specs.Text.{Text, ascii, decimal, field}
 use Rattle.textreading.specs.Reading.{number_in, integer_in, list_in, lines_of, first_line}
 use Rattle.textreading.specs.Reading.Lines.{Next, next}

@@ -7,12 +7,12 @@ use lib.ListN.{length-map}
 use lib.Seq.{sets, length-sets}
 use borrow.Author.Tests.{eq-eqb, le-leb}
 use Rattle.theory.specs.Basics.{Bool, true, false, ◌&&◌, List, [], ◌∷◌, ◌++◌, map, length, take, replicate}
-use Rattle.theory.specs.Basics.{ℕ, ◌-◌, ℤ, pos, ◌=?◌}
-use Rattle.theory.specs.Basics.Laws.{Each, each_map}
+use Rattle.theory.specs.Basics.{ℕ, ◌-◌, ℤ, pos, ◌=?◌, Each}
+use Rattle.theory.proofs.Basics.Laws.{each_map}
 use Rattle.theory.specs.Digits.{width}
 use Rattle.theory.specs.Limits.{degree_limit, page_limit}
 use Rattle.theory.specs.Refusals.{first_of, no-7}
-use Rattle.theory.specs.Refusals.Laws.{first_passes}
+use Rattle.theory.proofs.Refusals.Laws.{first_passes}
 use Rattle.text.specs.Text.{Text}
 use Rattle.pages.specs.declared.Slip.{Slip}
 use Rattle.pages.specs.Line.{Line}

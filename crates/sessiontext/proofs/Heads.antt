@@ -9,12 +9,12 @@ use lib.ListN.{length-drop, drop_of_length-le}
 use lib.Seq.{drop-drop, get_or-drop, take_all}
 use borrow.Author.Tests.{not-false}
 use Rattle.theory.specs.Basics.{Bool, true, false, not, ◌&&◌, List, [], ◌∷◌, ℕ, ◌+◌, ◌-◌, length, get_or, take, drop}
-use Rattle.theory.specs.Basics.{◌=?◌, same}
-use Rattle.theory.specs.Basics.Laws.{Each, same_lists}
+use Rattle.theory.specs.Basics.{◌=?◌, same, Each}
+use Rattle.theory.proofs.Basics.Laws.{same_lists}
 use Rattle.theory.specs.Partition.{degree}
 use Rattle.theory.specs.Limits.{degree_limit}
 use Rattle.theory.specs.Refusals.{Check, first_of}
-use Rattle.theory.specs.Refusals.Laws.{none-applies}
+use Rattle.theory.proofs.Refusals.Laws.{none-applies}
 use Rattle.text.specs.Text.{Text, ascii, decimal, field}
 use Rattle.textreading.specs.Reading.{number_in, list_in, lines_of, first_line}
 use Rattle.textreading.specs.Reading.Lines.{Next}

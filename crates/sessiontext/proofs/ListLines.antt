@@ -4,7 +4,7 @@ use mathlib.Core.Bool.{false≢true}
 use Prim.Native.Nat.{◌≤◌}
 use native.Mathlib.Omega.{arith}
 use Rattle.theory.specs.Basics.{Bool, true, false, List, ℕ, length}
-use Rattle.theory.specs.Basics.Keep.{same_test}
+use Rattle.theory.proofs.Basics.Keep.{same_test}
 use Rattle.theory.specs.Partition.{Parts}
 use Rattle.theory.specs.Limits.{degree_limit}
 use Rattle.text.specs.Text.{Text, list_text, text_line}

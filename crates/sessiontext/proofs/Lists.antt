@@ -6,12 +6,12 @@ use native.Mathlib.Omega.{arith}
 use lib.ListN.{length-map}
 use borrow.Author.Tests.{ltb-false, le-ltb, not-false}
 use Rattle.theory.specs.Basics.{true, false, List, [], ◌∷◌, map, ℕ, length, take, ◌<?◌}
-use Rattle.theory.specs.Basics.Keep.{same_test}
+use Rattle.theory.proofs.Basics.Keep.{same_test}
 use Rattle.theory.specs.Partition.{Parts, is_partition, degree}
-use Rattle.theory.specs.Partition.Laws.{length-degree}
+use Rattle.theory.proofs.Partition.Laws.{length-degree}
 use Rattle.theory.specs.Limits.{degree_limit}
 use Rattle.theory.specs.Refusals.{first_of}
-use Rattle.theory.specs.Refusals.Laws.{none-applies}
+use Rattle.theory.proofs.Refusals.Laws.{none-applies}
 use Rattle.words.specs.declared.WordAnswer.{WordAnswer}
 use Rattle.words.specs.Answers.{worded}
 use Rattle.words.specs.Private.Reading.{list_checks}

@@ -13,7 +13,8 @@ use Rattle.theory.specs.Basics.{Bool, true, false, cond, List, [], ◌∷◌, �
 use Rattle.theory.specs.Basics.{ℕ, zero, suc, ◌+◌, ◌-◌, ◌=?◌}
 use Rattle.theory.specs.Limits.{degree_limit}
 use Rattle.theory.specs.Refusals.{Check, first_of, no-7, no-10, no-16}
-use Rattle.theory.specs.Refusals.Laws.{Numbered, first-refuses, first_passes, or-refused}
+use Rattle.theory.specs.Refusals.Laws.{Numbered}
+use Rattle.theory.proofs.Refusals.Laws.{first-refuses, first_passes, or-refused}
 use Rattle.words.specs.Answers.{Outcome}
 use Rattle.text.specs.Text.{Text}
 use Rattle.textreading.specs.Reading.{lines_of}

@@ -8,7 +8,7 @@ use mir.Syntax.{w64}
 use mir.Val.{to_z}
 use native.Mathlib.Omega.{arith}
 use Rattle.theory.specs.Basics.{Bool, true, false, ℕ, ◌^◌, pos, length}
-use Rattle.theory.specs.Basics.Keep.{same_test}
+use Rattle.theory.proofs.Basics.Keep.{same_test}
 use Rattle.text.specs.Text.{Text, ascii, decimal, text_line}
 use Rattle.text.specs.Wrote.{most}
 use Rattle.textreading.specs.Reading.{number_in}

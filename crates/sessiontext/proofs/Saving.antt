@@ -6,7 +6,7 @@ use borrow.Author.Tests.{lt-ltb, le-ltb}
 use Rattle.theory.specs.Basics.{List, [], ◌∷◌, ◌++◌, length, ℕ}
 use Rattle.theory.specs.Limits.{degree_limit}
 use Rattle.theory.specs.Refusals.{Check, first_of, no-17}
-use Rattle.theory.specs.Refusals.Laws.{first-refuses, first_passes, or-refused}
+use Rattle.theory.proofs.Refusals.Laws.{first-refuses, first_passes, or-refused}
 use Rattle.words.specs.declared.CountAnswer.{CountAnswer}
 use Rattle.words.specs.Answers.{Outcome, count_answer}
 use Rattle.text.specs.Text.{Text}

@@ -11,7 +11,7 @@ use mir.Syntax.{w64}
 use mir.Val.{to_z}
 use Rattle.theory.specs.Basics.{Bool, true, false, cond, ℕ, zero, suc, ◌+◌, ◌-◌, ◌^◌, ℤ, pos, neg_ℤ}
 use Rattle.theory.specs.Basics.{length, drop, ◌<?◌}
-use Rattle.theory.specs.Basics.Keep.{same_test}
+use Rattle.theory.proofs.Basics.Keep.{same_test}
 use Rattle.text.specs.Text.{Text, ascii, integer, field}
 use Rattle.text.specs.Text.Decimals.{integer-length}
 use Rattle.text.specs.Wrote.{most}

@@ -11,7 +11,7 @@ use lib.ListN.{get_or-eq_default, set, length-set, length-append, length-drop, t
 use lib.Seq.{drop-cons, drop-drop, take-suc-set}
 use Rattle.theory.specs.Basics.{Bool, true, false, ◌<?◌, List, [], ◌∷◌, ◌++◌, map, length, get_or, take, drop, joined}
 use Rattle.theory.specs.Basics.{ℕ, ◌+◌, ◌-◌, ◌/◌, ◌%◌, ◌^◌, ℤ, pos, signed}
-use Rattle.theory.specs.Bounds.Laws.{abs-signed}
+use Rattle.theory.proofs.Bounds.Laws.{abs-signed}
 use Rattle.theory.specs.Partition.{Parts}
 use Rattle.theory.specs.Digits.{width}
 use Rattle.theory.specs.ShapeWord.{shape_word}

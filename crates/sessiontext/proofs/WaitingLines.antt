@@ -11,12 +11,12 @@ use lib.Seq.{drop-drop, drop-length, take_all, length-take-le}
 use Rattle.theory.specs.Basics.{Bool, true, false, ◌&&◌, cond, List, [], ◌∷◌, ℕ, suc, ◌+◌, ◌-◌, ◌%◌, ◌^◌, length, take}
 use Rattle.theory.specs.Basics.{drop, ◌=?◌}
 use Rattle.theory.specs.Basics.{◌<?◌}
-use Rattle.theory.specs.Basics.Keep.{same_test}
-use Rattle.theory.specs.Basics.Laws.{both}
+use Rattle.theory.proofs.Basics.Keep.{same_test}
+use Rattle.theory.proofs.Basics.Laws.{both}
 use Rattle.theory.specs.Partition.{Parts}
 use Rattle.theory.specs.ShapeWord.{shape_word}
-use Rattle.theory.specs.ShapeWord.Good.{good-shape}
-use Rattle.theory.specs.ShapeWord.Words.{rows-good}
+use Rattle.theory.proofs.ShapeWord.Good.{good-shape}
+use Rattle.theory.proofs.ShapeWord.Words.{rows-good}
 use Rattle.theory.specs.ClassWord.{class_word}
 use Rattle.theory.specs.Digits.{width}
 use Rattle.theory.specs.Limits.{degree_limit}

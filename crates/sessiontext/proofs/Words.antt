@@ -9,14 +9,15 @@ use borrow.Author.Rules.{sfits_of}
 use borrow.Author.Tests.{ltb-true}
 use Rattle.theory.specs.Basics.{true, List, ℕ, ◌^◌, ℤ, pos, negsuc, length, replicate}
 use Rattle.theory.specs.Partition.{degree}
-use Rattle.theory.specs.Partition.Laws.{length-degree}
+use Rattle.theory.proofs.Partition.Laws.{length-degree}
 use Rattle.theory.specs.Digits.{digits, width}
 use Rattle.theory.specs.ShapeWord.{shape_of}
-use Rattle.theory.specs.ShapeWord.Laws.{rows-partition}
+use Rattle.theory.proofs.ShapeWord.Laws.{rows-partition}
 use Rattle.theory.specs.ClassWord.{class_of}
 use Rattle.theory.specs.Limits.{degree_limit}
 use Rattle.theory.specs.Refusals.{shape_checks, class_checks}
-use Rattle.theory.specs.Refusals.Laws.{Within, WithinClass, shape-passes, class-passes}
+use Rattle.theory.specs.Refusals.Laws.{Within, WithinClass}
+use Rattle.theory.proofs.Refusals.Laws.{shape-passes, class-passes}
 use Rattle.words.specs.declared.NumberAnswer.{NumberAnswer}
 use Rattle.words.specs.declared.CountAnswer.{CountAnswer}
 use Rattle.words.specs.Answers.{Outcome}

@@ -1,7 +1,6 @@
 // Waiting lines with coefficients read off a text: to judge their form, and again to put them down.
 ghost use Rattle.std.specs.Prelude.{◌≡◌, ◌≤◌};
-ghost use Rattle.theory.specs.Basics.{length, drop};
-ghost use Rattle.theory.specs.Basics.Laws.{Each};
+ghost use Rattle.theory.specs.Basics.{length, drop, Each};
 ghost use Rattle.theory.specs.Limits.{degree_limit};
 ghost use Rattle.theory.specs.Refusals.{first_of};
 ghost use Rattle.textreading.specs.Reading.{lines_of};

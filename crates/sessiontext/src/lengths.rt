@@ -1,8 +1,7 @@
 // How long the text of waiting lines is, told without writing it: a part takes one byte, only the longest may take two,
 // and each but the last has a comma behind it.
 ghost use Rattle.std.specs.Prelude.{◌≡◌, ◌≤◌, ◌<◌};
-ghost use Rattle.theory.specs.Basics.{length, joined, map};
-ghost use Rattle.theory.specs.Basics.Laws.{Each};
+ghost use Rattle.theory.specs.Basics.{length, joined, map, Each};
 ghost use Rattle.theory.specs.ShapeWord.{shape_of};
 ghost use Rattle.theory.specs.ClassWord.{class_of};
 ghost use Rattle.theory.specs.Limits.{degree_limit, page_limit};

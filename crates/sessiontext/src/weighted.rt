@@ -1,8 +1,7 @@
 // Waiting lines with coefficients as text, and the text of a gathered session (document 02, P7: "the coefficient, with
 // a minus where it is negative, in place of the sign").
 ghost use Rattle.std.specs.Prelude.{◌≡◌};
-ghost use Rattle.theory.specs.Basics.{length, joined};
-ghost use Rattle.theory.specs.Basics.Laws.{Each};
+ghost use Rattle.theory.specs.Basics.{length, joined, Each};
 ghost use Rattle.theory.specs.Limits.{degree_limit};
 ghost use Rattle.text.specs.Wrote.{Wrote};
 ghost use Rattle.pages.specs.Mode.{weighted, alongside};

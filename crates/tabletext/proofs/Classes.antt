@@ -12,16 +12,18 @@ use borrow.Author.Rules.{sfits_of}
 use borrow.Author.Tests.{le-ltb, lt-leb}
 use Rattle.theory.specs.Basics.{List, [], ℕ, ◌^◌, ℤ, pos, length, get_or, replicate}
 use Rattle.theory.specs.Partition.{Parts, degree}
-use Rattle.theory.specs.Partition.Laws.{length-degree}
+use Rattle.theory.proofs.Partition.Laws.{length-degree}
 use Rattle.theory.specs.ClassWord.{class_word, class_of}
-use Rattle.theory.specs.ClassWord.Laws.{Held, class-good, class-of-word, word_good}
+use Rattle.theory.specs.ClassWord.Laws.{Held}
+use Rattle.theory.proofs.ClassWord.Laws.{class-good, class-of-word, word_good}
 use Rattle.theory.specs.ClassData.{class_divisor, class_size}
 use Rattle.theory.specs.Bounds.{factorial}
 use Rattle.theory.specs.Bounds.Laws.{largest_limit}
 use Rattle.theory.specs.Listing.{listing}
 use Rattle.theory.specs.Column.{column}
-use Rattle.theory.specs.Listing.Order.{UpTo, partition-at}
-use Rattle.theory.specs.Column.Laws.{column-length}
+use Rattle.theory.specs.Listing.Order.{UpTo}
+use Rattle.theory.proofs.Listing.Order.{partition-at}
+use Rattle.theory.proofs.Column.Laws.{column-length}
 use Rattle.theory.specs.Refusals.{first_of, class_checks}
 use Rattle.words.specs.Answers.{Outcome}
 use Rattle.words.specs.declared.CountAnswer.{CountAnswer}

@@ -2,8 +2,8 @@
 --   carried z   what 64 bits make of the whole number z: z itself, where it fits
 use Rattle.std.proofs.Common.{◌≡◌, ℕ, suc, ◌^◌, ◌<◌, Bool, true, false, ◌&&◌, T, ltb, ℤ, pos, negsuc, ◌+ℤ◌, nat_abs, refl, arith, to_z-of_z, w64, Fits, SFits, to_z, of_z, ltb-false, ltb-true, le-ltb, lt-ltb}
 use lib.Signed.{lt_z, non_neg}
-use Rattle.theory.specs.Basics.Laws.{both}
-use Rattle.theory.specs.Bounds.Laws.{abs-add}
+use Rattle.theory.proofs.Basics.Laws.{both}
+use Rattle.theory.proofs.Bounds.Laws.{abs-add}
 use Rattle.testing.specs.Numbers.{natural_of, has_room, sum_of}
 
 abbrev pub carried : ℤ → ℤ

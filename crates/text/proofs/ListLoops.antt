@@ -7,7 +7,7 @@ use native.Mathlib.Omega.{arith}
 use lib.ListN.{length-map}
 use lib.Seq.{take_all}
 use Rattle.theory.specs.Basics.{List, [], ◌++◌, map, ℕ, suc, ◌+◌, length, get_or, take}
-use Rattle.theory.specs.Basics.AtPlace.{map_at}
+use Rattle.theory.proofs.Basics.AtPlace.{map_at}
 use Rattle.text.specs.Text.{Text, commas}
 use Rattle.text.specs.Text.Lists.{separator, commas-next}
 use Rattle.text.specs.Wrote.{most, Wrote}

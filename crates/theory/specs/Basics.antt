@@ -11,10 +11,8 @@
 pub use Rattle.std.specs.Prelude.{Bool, true, false, cond, not, ◌&&◌, ℕ, zero, suc, ◌+◌, ◌-◌, ◌*◌, ◌/◌, ◌%◌, ◌^◌, length, get_or, set, take, drop, replicate, ℤ, pos, negsuc, ◌+ℤ◌, ◌-ℤ◌, ◌*ℤ◌, neg_ℤ, nat_abs}
 pub use mathlib.Core.List.{List, [], ◌∷◌, ◌++◌, map, foldr, reverse}
 use Rattle.std.specs.Prelude.{eqb, ltb, leb}
-pub mod Laws
 pub mod AtPlace
 pub mod Integers
-pub mod Keep
 
 infix 40 ◌=?◌ ◌<?◌ ◌≤?◌
 abbrev pub ◌=?◌ : ℕ → ℕ → Bool

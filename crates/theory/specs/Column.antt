@@ -4,7 +4,6 @@ use Rattle.theory.specs.Basics.{List, map, ℤ}
 use Rattle.theory.specs.Partition.{Parts, degree}
 use Rattle.theory.specs.Character.{◌on◌}
 use Rattle.theory.specs.Listing.{listing}
-pub mod Laws
 
 unfoldable pub column : Parts → List ℤ
 column class = map (◌on class) (listing (degree class))

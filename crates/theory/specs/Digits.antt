@@ -7,10 +7,6 @@
 --   width        31: the digits of a word, without bit 31, its sign digit
 use Rattle.theory.specs.Basics.{Bool, true, false, not, cond, List, [], ◌∷◌, ℕ, zero, suc, ◌+◌, ◌/◌, ◌^◌}
 use Rattle.theory.specs.Basics.{◌=?◌, odd, count}
-pub mod Laws
-pub mod LastOne
-pub mod Low
-pub mod Bits
 
 abbrev pub Digits : Type 0
 Digits = List Bool

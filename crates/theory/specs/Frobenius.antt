@@ -5,10 +5,6 @@
 use Rattle.theory.specs.Basics.{List, [], ◌∷◌, ◌++◌, map, length, ℕ, ◌+◌, ◌-◌, ◌*◌, ◌/◌, product}
 use Rattle.theory.specs.Partition.{Parts, degree}
 use Rattle.theory.specs.Bounds.{factorial}
-pub mod Spreads
-pub mod Falling
-pub mod Laws
-pub mod HookLengths
 
 abbrev pub l_numbers : Parts → List ℕ
 l_numbers [] = []

@@ -7,17 +7,8 @@ use Rattle.theory.specs.Basics.{Bool, true, false, not, cond, ◌&&◌, List, []
 use Rattle.theory.specs.Basics.{take, drop, ℕ, ◌+◌, ◌-◌, odd, joined, up_from}
 use Rattle.theory.specs.Digits.{Digits, digits, word, zeros, width}
 use Rattle.theory.specs.ShapeWord.{shifted}
-pub mod Walk
-pub mod Laws
 pub mod Words
-pub mod Apart
-pub mod Betas
-pub mod Rule
-pub mod Evaluation
-pub mod Bounds
 pub mod Degrees
-pub mod Flipped
-pub mod Associates
 pub mod Marks
 
 pub record Hook (A : Type 0) : Type 0 where

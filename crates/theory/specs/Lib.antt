@@ -1,4 +1,4 @@
--- Documents 01 and 02, read from here: each file says which paragraph it states, and its folder has the laws.
+-- Documents 01 and 02, read from here: each file says which paragraph it states, and proofs/ has the laws of each.
 pub mod Basics
 pub mod Limits
 pub mod Partition

@@ -11,11 +11,7 @@ use Rattle.theory.specs.Basics.{cond, List, [], ◌∷◌, ◌++◌, map, length
 use Rattle.theory.specs.Basics.{joined, down_from}
 use Rattle.theory.specs.Partition.{Parts, degree}
 use Rattle.theory.specs.ShapeWord.{shape_word}
-pub mod Laws
 pub mod Order
-pub mod Ranks
-pub mod Words
-pub mod Sizes
 
 unfoldable pub partitions : ℕ → ℕ → ℕ → List Parts
 partitions zero most zero = [] ∷ []

@@ -5,7 +5,8 @@ use Prim.Native.Nat.{◌≤◌, ◌<◌}
 use borrow.Author.Tests.{le-ltb, lt-ltb}
 use Rattle.theory.specs.Basics.{List, [], ◌∷◌, ◌++◌, length, ℕ, ℤ, pos, ◌<?◌}
 use Rattle.theory.specs.Refusals.{Check, first_of}
-use Rattle.theory.specs.Refusals.Laws.{Numbered, or-refused, first-refuses, first_passes}
+use Rattle.theory.specs.Refusals.Laws.{Numbered}
+use Rattle.theory.proofs.Refusals.Laws.{or-refused, first-refuses, first_passes}
 use Rattle.words.specs.Answers.{Outcome, word_answer, number_answer, count_answer, at_front, CountAnswer}
 use Rattle.words.specs.Answers.{worded, numbered, written}
 

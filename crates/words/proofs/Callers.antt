@@ -9,8 +9,9 @@ use lib.Seq.{take_at}
 use borrow.Author.Tests.{le-ltb}
 use Rattle.theory.specs.Basics.{List, [], ◌∷◌, ◌++◌, length, take, ℕ, ℤ, pos}
 use Rattle.theory.specs.Refusals.{Check, first_of, refused_or}
-use Rattle.theory.specs.Refusals.Laws.{Numbered, answer-number, answer-given, answer-refused}
-use Rattle.theory.specs.Refusals.Laws.{first-refuses, first_passes}
+use Rattle.theory.specs.Refusals.Laws.{Numbered}
+use Rattle.theory.proofs.Refusals.Laws.{answer-number, answer-given, answer-refused}
+use Rattle.theory.proofs.Refusals.Laws.{first-refuses, first_passes}
 use Rattle.words.specs.Answers.{Outcome, word_answer, number_answer, count_answer, at_front, WordAnswer, NumberAnswer}
 use Rattle.words.specs.Answers.{worded, numbered, written, CountAnswer}
 use Rattle.words.proofs.Answers.{too_short}

@@ -10,8 +10,8 @@ use Rattle.theory.specs.Basics.{[], ℕ, ◌-◌, ◌*◌, ◌%◌, ◌^◌}
 use Rattle.theory.specs.Partition.{Parts}
 use Rattle.theory.specs.Digits.{digits}
 use Rattle.theory.specs.ClassWord.{parts_after}
-use Rattle.theory.specs.ClassWord.Laws.{parts_none}
-use Rattle.theory.specs.ClassWord.Reading.{NextPart as NextPartAt, next-part as next-part-at}
+use Rattle.theory.proofs.ClassWord.Laws.{parts_none}
+use Rattle.theory.proofs.ClassWord.Reading.{NextPart as NextPartAt, next-part as next-part-at}
 
 abbrev pub parts_left : ℕ → ℕ → Parts
 parts_left at rest = parts_after 0 (digits (31 - at) rest)

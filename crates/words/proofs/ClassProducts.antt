@@ -7,7 +7,7 @@ use native.Mathlib.Omega.{arith}
 use lib.Count.{count_leading_zeros}
 use Rattle.theory.specs.Basics.{ℕ, ◌+◌, ◌-◌, ◌*◌, ◌%◌, ◌^◌}
 use Rattle.theory.specs.Partition.{degree}
-use Rattle.theory.specs.ClassData.Laws.{factor-room}
+use Rattle.theory.proofs.ClassData.Laws.{factor-room}
 use Rattle.theory.specs.Bounds.{factorial}
 use Rattle.theory.specs.Bounds.Laws.{largest_limit}
 use Rattle.words.proofs.ClassLoops.{parts_left, NextPart, next-part}

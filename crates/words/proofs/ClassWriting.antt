@@ -7,11 +7,11 @@ use Prim.Native.Nat.{◌≤◌, ◌<◌}
 use native.Mathlib.Omega.{arith}
 use Rattle.theory.specs.Basics.{true, [], ◌∷◌, ℕ, ◌+◌, ◌-◌, ◌*◌, ◌%◌, ◌^◌}
 use Rattle.theory.specs.Partition.{Parts, is_partition, degree}
-use Rattle.theory.specs.Partition.Laws.{front}
+use Rattle.theory.proofs.Partition.Laws.{front}
 use Rattle.theory.specs.Digits.{word}
-use Rattle.theory.specs.Digits.Laws.{one_shifted, word_none}
+use Rattle.theory.proofs.Digits.Laws.{one_shifted, word_none}
 use Rattle.theory.specs.ClassWord.{class_digits, class_word}
-use Rattle.theory.specs.ClassWord.Laws.{class-word-front}
+use Rattle.theory.proofs.ClassWord.Laws.{class-word-front}
 
 pub record Writing (w left bits : ℕ) (ps : Parts) : Type 0 where
   pub partition : is_partition ps ≡ true

@@ -4,9 +4,11 @@ use Prim.Native.Nat.{◌≤◌, ◌<◌}
 use native.Mathlib.Nat.{lt_of_le_of_lt}
 use native.Mathlib.Omega.{arith}
 use Rattle.theory.specs.Basics.{true, List, [], ◌∷◌, ℕ, ◌^◌, get_or}
-use Rattle.theory.specs.Basics.AtPlace.{tabled, tabled-at}
+use Rattle.theory.specs.Basics.AtPlace.{tabled}
+use Rattle.theory.proofs.Basics.AtPlace.{tabled-at}
 use Rattle.theory.specs.Bounds.{factorial}
-use Rattle.theory.specs.Bounds.Laws.{factorial-rises, largest_limit}
+use Rattle.theory.specs.Bounds.Laws.{largest_limit}
+use Rattle.theory.proofs.Bounds.Laws.{factorial-rises}
 use Rattle.theory.specs.Limits.{degree_limit}
 
 abbrev pub factorials : List ℕ

@@ -11,8 +11,9 @@ use Rattle.theory.specs.Partition.{Parts, is_partition, degree}
 use Rattle.theory.specs.ClassWord.{class_of}
 use Rattle.theory.specs.Bounds.Laws.{largest_limit}
 use Rattle.theory.specs.Refusals.{Check, first_of, refused_or, no-14, class_checks}
-use Rattle.theory.specs.Refusals.Laws.{Numbered, or-refused, answer-number, answer-given, none-applies, first-refuses}
-use Rattle.theory.specs.Refusals.Laws.{first_passes, both-pass, within, WithinClass, within-class}
+use Rattle.theory.specs.Refusals.Laws.{Numbered, WithinClass}
+use Rattle.theory.proofs.Refusals.Laws.{or-refused, answer-number, answer-given, none-applies, first-refuses}
+use Rattle.theory.proofs.Refusals.Laws.{first_passes, both-pass, within, within-class}
 use Rattle.words.specs.declared.Measure.{Measure}
 use Rattle.words.specs.Answers.{CountAnswer}
 use Rattle.words.specs.Answers.{Outcome, number_answer, count_answer, at_front, numbered, written, NumberAnswer}

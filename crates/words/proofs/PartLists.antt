@@ -8,7 +8,7 @@ use lib.ListN.{drop_of_length-le}
 use lib.Seq.{drop-cons}
 use Rattle.theory.specs.Basics.{false, [], ◌∷◌, ℕ, zero, suc, ◌+◌, length, get_or, drop}
 use Rattle.theory.specs.Partition.{Parts, first, is_partition, degree}
-use Rattle.theory.specs.Partition.Laws.{rise, fall}
+use Rattle.theory.proofs.Partition.Laws.{rise, fall}
 
 pub first-left : (ps : Parts) (i : ℕ) → first (drop i ps) ≡ get_or ps i 0
 first-left [] zero = refl

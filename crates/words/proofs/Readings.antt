@@ -4,9 +4,10 @@ use mathlib.Core.Path.{◌≡◌, refl, sym, ◌∙◌, ap}
 use Rattle.theory.specs.Basics.{ℕ}
 use Rattle.theory.specs.Partition.{degree}
 use Rattle.theory.specs.ShapeWord.{shape_of, good_word, dropped}
-use Rattle.theory.specs.ShapeWord.InFront.{dropped-shape}
+use Rattle.theory.proofs.ShapeWord.InFront.{dropped-shape}
 use Rattle.theory.specs.Refusals.{first_of, shape_checks}
-use Rattle.theory.specs.Refusals.Laws.{or-refused, made_of, answer-number, answer-given, Within, within}
+use Rattle.theory.specs.Refusals.Laws.{Within}
+use Rattle.theory.proofs.Refusals.Laws.{or-refused, made_of, answer-number, answer-given, within}
 use Rattle.words.specs.Answers.{reading, good_answer, GoodAnswer, ShapeReading}
 use Rattle.words.specs.Calls.{shape_reading, good_shape_word}
 

@@ -17,8 +17,9 @@ use Rattle.theory.specs.Basics.{Bool, true, false, not, ℕ, suc, ◌*◌, ◌^�
 use Rattle.theory.specs.Character.{character_degree}
 use Rattle.theory.specs.ShapeWord.{shape_of}
 use Rattle.theory.specs.Bounds.{factorial}
-use Rattle.theory.specs.Bounds.Laws.{factorial-rises}
-use Rattle.theory.specs.Hooks.Degrees.{Positive, degree-positive, degree-bounded}
+use Rattle.theory.proofs.Bounds.Laws.{factorial-rises}
+use Rattle.theory.specs.Hooks.Degrees.{Positive}
+use Rattle.theory.proofs.Hooks.Degrees.{degree-positive, degree-bounded}
 use Rattle.pages.specs.Line.{Line, line_degree, signed_character}
 use Rattle.pages.specs.Page.{line_of}
 use Rattle.pages.specs.Page.Words.{unit-weight}

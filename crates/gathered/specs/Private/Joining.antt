@@ -18,8 +18,7 @@
 use Rattle.std.specs.Prelude.{◌≡◌, ◌≤◌, ◌<◌}
 use Rattle.theory.specs.Basics.{Bool, true, false, cond, List, [], ◌∷◌, ◌++◌, map, length, get_or, set, take, drop, ℕ}
 use Rattle.theory.specs.Basics.{suc, ◌+◌, ◌*◌}
-use Rattle.theory.specs.Basics.{◌^◌, ℤ, pos, ◌+ℤ◌, nat_abs, ◌=?◌, ◌<?◌, keep, every}
-use Rattle.theory.specs.Basics.Laws.{Each}
+use Rattle.theory.specs.Basics.{◌^◌, ℤ, pos, ◌+ℤ◌, nat_abs, ◌=?◌, ◌<?◌, keep, every, Each}
 use Rattle.theory.specs.Limits.{degree_limit, page_limit}
 use Rattle.pages.specs.Line.{Line}
 use Rattle.pages.specs.Page.{line_at}

@@ -1,7 +1,8 @@
 -- `hooks::leaves` meets its contract: it is the definition's own expression, and the leading ones are fewer than 32.
 use mathlib.Core.Path.{refl}
 use borrow.Author.Rules.{rules}
-use Rattle.theory.specs.ShapeWord.Shifting.{ones_before, ones_out, ones-few}
+use Rattle.theory.specs.ShapeWord.Shifting.{ones_before, ones_out}
+use Rattle.theory.proofs.ShapeWord.Shifting.{ones-few}
 use Rattle.theory.specs.Hooks.Marks.Stretch.{raised}
 use Rattle.hooks.proofs.leaves.Statement.{statement}
 use Rattle.hooks.proofs.leaves.Tie as tie

@@ -2,7 +2,7 @@
 use mathlib.Core.Path.{refl, sym}
 use borrow.Author.Rules.{rules}
 use Rattle.theory.specs.Hooks.Marks.{marks}
-use Rattle.theory.specs.Hooks.Marks.Stretch.{marks-none}
+use Rattle.theory.proofs.Hooks.Marks.Stretch.{marks-none}
 use Rattle.hooks.proofs.marks.Statement.{statement}
 use Rattle.hooks.proofs.marks.Tie as tie
 

@@ -2,7 +2,8 @@
 use mathlib.Core.Path.{refl, sym}
 use lib.Pow.{shr_le}
 use borrow.Author.Rules.{rules}
-use Rattle.theory.specs.Hooks.Marks.Stretch.{stretch, stretch-whole}
+use Rattle.theory.specs.Hooks.Marks.Stretch.{stretch}
+use Rattle.theory.proofs.Hooks.Marks.Stretch.{stretch-whole}
 use Rattle.hooks.proofs.stretch.Statement.{statement}
 use Rattle.hooks.proofs.stretch.Tie as tie
 

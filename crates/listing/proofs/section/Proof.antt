@@ -6,10 +6,10 @@ use native.Mathlib.Omega.{arith}
 use borrow.Author.Rules.{rules}
 use borrow.Author.Tests.{lt-ltb, le-ltb}
 use Rattle.theory.specs.Basics.{List, [], ◌∷◌, ℕ, get_or, take, total}
-use Rattle.theory.specs.Basics.AtPlace.{tabled-at}
+use Rattle.theory.proofs.Basics.AtPlace.{tabled-at}
 use Rattle.theory.specs.Listing.{partition_counts, start}
-use Rattle.theory.specs.Listing.Laws.{count_kept}
-use Rattle.theory.specs.Listing.Words.{start-summed}
+use Rattle.theory.proofs.Listing.Laws.{count_kept}
+use Rattle.theory.proofs.Listing.Words.{start-summed}
 use Rattle.theory.specs.Limits.{degree_limit}
 use Rattle.listing.specs.Calls.{section_answer, section_of}
 use Rattle.listing.proofs.section.Statement.{statement}

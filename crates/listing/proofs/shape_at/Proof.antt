@@ -5,7 +5,7 @@ use native.Mathlib.Omega.{arith}
 use borrow.Author.Rules.{rules}
 use Rattle.theory.specs.Basics.{List, ℕ, suc, ◌+◌, get_or, length}
 use Rattle.theory.specs.Listing.{listing, start}
-use Rattle.theory.specs.Listing.Words.{word_at}
+use Rattle.theory.proofs.Listing.Words.{word_at}
 use Rattle.theory.specs.Limits.{degree_limit}
 use Rattle.words.proofs.Answers.{word-refused, word-given}
 use Rattle.listing.specs.declared.SectionAnswer.{SectionAnswer}

@@ -5,7 +5,7 @@ use Rattle.theory.specs.Basics.{List, map, length, ℕ}
 use Rattle.theory.specs.Digits.{width}
 use Rattle.theory.specs.ShapeWord.{shape_of}
 use Rattle.theory.specs.ClassWord.{class_of}
-use Rattle.theory.specs.OldForm.Laws.{from_old, to-old}
+use Rattle.theory.proofs.OldForm.Laws.{from_old, to-old}
 use Rattle.words.specs.Answers.{Outcome}
 use Rattle.oldlists.specs.Lists.{ListAnswer, list_answer}
 use Rattle.oldlists.specs.Lists.Laws.{list-kept, list_back}

@@ -11,12 +11,12 @@ use Rattle.std.proofs.Math.Decide.{ℕ_discrete}
 use Rattle.std.proofs.lemmas.List.{length-map}
 use Rattle.std.proofs.lemmas.Bool.{not-false}
 use Rattle.theory.specs.Basics.{List, [], ◌∷◌, map, length, get_or, take, ℕ, suc, ◌+◌}
-use Rattle.theory.specs.Basics.{◌=?◌, ◌≤?◌}
-use Rattle.theory.specs.Basics.Laws.{Each, both, each_map, map_same}
+use Rattle.theory.specs.Basics.{◌=?◌, ◌≤?◌, Each}
+use Rattle.theory.proofs.Basics.Laws.{both, each_map, map_same}
 use Rattle.theory.specs.Partition.{Parts}
 use Rattle.theory.specs.Limits.{list_limit}
 use Rattle.theory.specs.Refusals.{Check, first_of, no-20}
-use Rattle.theory.specs.Refusals.Laws.{or-refused, neither, none-applies}
+use Rattle.theory.proofs.Refusals.Laws.{or-refused, neither, none-applies}
 use Rattle.theory.specs.OldForm.Laws.{Passes, OneWord}
 use Rattle.words.specs.Answers.{Outcome}
 use Rattle.oldlists.specs.Lists.{ListAnswer, list_answer, first_bad, judged, moved}

@@ -8,9 +8,9 @@ use native.Mathlib.Omega.{arith}
 use Rattle.std.specs.Int.Signed.{non_neg}
 use borrow.Author.Tests.{leb-true, le-leb}
 use Rattle.theory.specs.Basics.{Bool, true, false, cond, ◌&&◌, List, [], ◌∷◌, ◌++◌, length, drop, ℕ, ◌-◌, nat_abs, ◌=?◌}
-use Rattle.theory.specs.Basics.{◌≤?◌, every}
-use Rattle.theory.specs.Basics.Laws.{both, Each}
-use Rattle.theory.specs.Basics.Keep.{same_test}
+use Rattle.theory.specs.Basics.{◌≤?◌, every, Each}
+use Rattle.theory.proofs.Basics.Laws.{both}
+use Rattle.theory.proofs.Basics.Keep.{same_test}
 use Rattle.theory.specs.Bounds.{factorial, S}
 use Rattle.pages.specs.Line.{Line}
 use Rattle.pages.specs.Page.{Slip}

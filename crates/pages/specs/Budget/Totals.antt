@@ -7,7 +7,7 @@ use Rattle.std.proofs.Common.{◌∙◌, ap}
 use native.Mathlib.Omega.{arith}
 use borrow.Author.Tests.{leb-true, le-leb, leb-false, lt-leb}
 use Rattle.theory.specs.Basics.{Bool, true, false, cond, ◌&&◌, List, [], ◌∷◌, ℕ, ◌+◌, ◌-◌, ◌≤?◌, every}
-use Rattle.theory.specs.Basics.Keep.{same_test}
+use Rattle.theory.proofs.Basics.Keep.{same_test}
 use Rattle.pages.specs.Line.{Line}
 use Rattle.pages.specs.Sound.{sound_line, line_value, line_span}
 use Rattle.pages.specs.Sound.Laws.{values, spans}

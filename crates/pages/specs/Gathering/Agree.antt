@@ -9,9 +9,9 @@ use Rattle.std.proofs.lemmas.Bool.{false≢true, not-true}
 use Rattle.std.proofs.Math.IntN.{+ℤ_idl, +ℤ_idr, +ℤ_comm, +ℤ_invr, +ℤ-neg_ℤ_cancel, neg_ℤ-+ℤ}
 use Rattle.theory.specs.Basics.{true, not, List, [], ◌∷◌, ◌++◌, map, length, ℕ, zero, suc, ℤ, pos, ◌+ℤ◌, ◌-ℤ◌, neg_ℤ}
 use Rattle.theory.specs.Basics.{nat_abs, ◌=?◌, every, sum}
-use Rattle.theory.specs.Basics.AtPlace.{each_at}
-use Rattle.theory.specs.Basics.Laws.{both, sum-append}
-use Rattle.theory.specs.Basics.Integers.{from-difference}
+use Rattle.theory.proofs.Basics.AtPlace.{each_at}
+use Rattle.theory.proofs.Basics.Laws.{both, sum-append}
+use Rattle.theory.proofs.Basics.Integers.{from-difference}
 use Rattle.pages.specs.Line.{Line, signed_character}
 use Rattle.pages.specs.Page.{line_of, line_at}
 use Rattle.pages.specs.Gathering.{alike, weighing, lasting, gather, distinct, gathered, coefficient}

@@ -10,9 +10,9 @@ use Rattle.std.proofs.lemmas.Simd.{map-map}
 use Rattle.std.proofs.lemmas.Bool.{not-true}
 use Rattle.std.proofs.Math.IntN.{+ℤ_assoc, +ℤ_idl, +ℤ_idr}
 use Rattle.theory.specs.Basics.{Bool, true, false, not, cond, ◌&&◌, List, [], ◌∷◌, ◌++◌, map, ℤ, pos, ◌+ℤ◌, keep, every}
-use Rattle.theory.specs.Basics.{sum}
-use Rattle.theory.specs.Basics.Laws.{Each, each_same, each_member, map_same}
-use Rattle.theory.specs.Basics.Keep.{every-each, each-kept, keep_all, keep_append, keep_same}
+use Rattle.theory.specs.Basics.{sum, Each}
+use Rattle.theory.proofs.Basics.Laws.{each_same, each_member, map_same}
+use Rattle.theory.proofs.Basics.Keep.{every-each, each-kept, keep_all, keep_append, keep_same}
 use Rattle.pages.specs.Line.{Line}
 use Rattle.pages.specs.Gathering.{alike, weighing, brought, all_brought, lasting, gather, distinct, coefficient}
 use Rattle.pages.specs.Gathering.Different.{Unlike, alike-alike, alike-back, first-unlike, rest-different}

@@ -5,10 +5,10 @@ use Rattle.std.specs.Prelude.{◌≡◌, refl, ◌<◌}
 use Rattle.std.proofs.Common.{sym, ◌∙◌, ap, arith, eq-eqb}
 use Rattle.std.proofs.lemmas.Bool.{not-true}
 use Rattle.theory.specs.Basics.{Bool, true, false, not, cond, List, [], ◌∷◌, ◌++◌, length, take, drop, ℕ, zero, suc}
-use Rattle.theory.specs.Basics.{pos, ◌+ℤ◌, keep, every}
-use Rattle.theory.specs.Basics.AtPlace.{each_at}
-use Rattle.theory.specs.Basics.Laws.{both, Each}
-use Rattle.theory.specs.Basics.Keep.{each-others, every-each, each-every, each-kept, every-kept, same_test}
+use Rattle.theory.specs.Basics.{pos, ◌+ℤ◌, keep, every, Each}
+use Rattle.theory.proofs.Basics.AtPlace.{each_at}
+use Rattle.theory.proofs.Basics.Laws.{both}
+use Rattle.theory.proofs.Basics.Keep.{each-others, every-each, each-every, each-kept, every-kept, same_test}
 use Rattle.pages.specs.Line.{Line}
 use Rattle.pages.specs.Page.{line_of, line_at}
 use Rattle.pages.specs.Gathering.{alike, weighing, brought, all_brought, lasting, gather, distinct}

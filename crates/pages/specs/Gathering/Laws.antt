@@ -10,11 +10,11 @@ use Rattle.std.proofs.Common.{◌∙◌, eqb-true}
 use native.Mathlib.Omega.{arith}
 use Rattle.std.proofs.Math.IntN.{+ℤ_assoc, +ℤ_comm, +ℤ_idl, +ℤ_idr, +ℤ_invr, +ℤ-neg_ℤ_cancel}
 use Rattle.theory.specs.Basics.{Bool, true, false, not, cond, List, [], ◌∷◌, map, ℕ, suc, ◌+◌, ℤ, pos, negsuc}
-use Rattle.theory.specs.Basics.{◌+ℤ◌, ◌-ℤ◌, nat_abs, ◌=?◌, keep, total, sum}
-use Rattle.theory.specs.Basics.Laws.{both, Each}
-use Rattle.theory.specs.Basics.Keep.{each-kept, total-keep}
-use Rattle.theory.specs.Basics.Integers.{swap-back}
-use Rattle.theory.specs.Basics.Integers.Products.{sum-times}
+use Rattle.theory.specs.Basics.{◌+ℤ◌, ◌-ℤ◌, nat_abs, ◌=?◌, keep, total, sum, Each}
+use Rattle.theory.proofs.Basics.Laws.{both}
+use Rattle.theory.proofs.Basics.Keep.{each-kept, total-keep}
+use Rattle.theory.proofs.Basics.Integers.{swap-back}
+use Rattle.theory.proofs.Basics.Integers.Products.{sum-times}
 use Rattle.pages.specs.Line.{Line, signed_character}
 use Rattle.pages.specs.Gathering.{alike, weighing, brought, all_brought, lasting, gather, coefficient}
 

@@ -9,8 +9,8 @@ use Rattle.std.specs.Prelude.{◌≡◌, ◌≤◌, ◌<◌}
 use Rattle.std.proofs.Math.Path.{refl}
 use Rattle.std.proofs.Common.{sym, ◌∙◌, ap, ap₂, arith, length-take-le, get_or-take}
 use Rattle.std.proofs.lemmas.List.{length-map}
-use Rattle.theory.specs.Basics.{List, [], ◌∷◌, map, length, get_or, take, ℕ, ℤ, pos, ◌+ℤ◌, every, total}
-use Rattle.theory.specs.Basics.Laws.{both, Each}
+use Rattle.theory.specs.Basics.{List, [], ◌∷◌, map, length, get_or, take, ℕ, ℤ, pos, ◌+ℤ◌, every, total, Each}
+use Rattle.theory.proofs.Basics.Laws.{both}
 use Rattle.theory.specs.Refusals.{first_of}
 use Rattle.pages.specs.Line.{Line}
 use Rattle.pages.specs.Page.{Slip, line_of, line_at, slip_of, worth}

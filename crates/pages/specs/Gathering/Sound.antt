@@ -2,10 +2,9 @@
 -- have one degree, and |a + b| is at most |a| + |b|.
 use Rattle.std.specs.Prelude.{◌≤◌}
 use Rattle.std.proofs.Common.{le_refl, mul-le-mul, arith}
-use Rattle.theory.specs.Basics.{List, ℕ, ◌+◌}
-use Rattle.theory.specs.Basics.Laws.{Each}
+use Rattle.theory.specs.Basics.{List, ℕ, ◌+◌, Each}
 use Rattle.theory.specs.Bounds.{factorial}
-use Rattle.theory.specs.Bounds.Laws.{abs-add}
+use Rattle.theory.proofs.Bounds.Laws.{abs-add}
 use Rattle.pages.specs.Line.{Line, line_degree}
 use Rattle.pages.specs.Sound.{line_value, line_span}
 use Rattle.pages.specs.Sound.Laws.{SoundLine, values, spans}

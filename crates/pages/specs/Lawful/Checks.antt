@@ -1,12 +1,12 @@
 -- The checks of slip and page in a mode: none has the number 0, and what it tells that none refuses.
 use Rattle.std.specs.Prelude.{◌≡◌, refl}
 use Rattle.std.proofs.Common.{◌∙◌}
-use Rattle.theory.specs.Basics.{List, [], ◌∷◌, ◌++◌, ℕ, ◌<?◌}
-use Rattle.theory.specs.Basics.Laws.{Each}
-use Rattle.theory.specs.Basics.Keep.{every-each, each-every}
-use Rattle.theory.specs.Basics.Laws.{each_append}
+use Rattle.theory.specs.Basics.{List, [], ◌∷◌, ◌++◌, ℕ, ◌<?◌, Each}
+use Rattle.theory.proofs.Basics.Keep.{every-each, each-every}
+use Rattle.theory.proofs.Basics.Laws.{each_append}
 use Rattle.theory.specs.Refusals.{Check, first_of, no-7}
-use Rattle.theory.specs.Refusals.Laws.{Numbered, first_passes}
+use Rattle.theory.specs.Refusals.Laws.{Numbered}
+use Rattle.theory.proofs.Refusals.Laws.{first_passes}
 use Rattle.pages.specs.Page.{Slip}
 use Rattle.pages.specs.Mode.{Mode}
 use Rattle.pages.specs.Sound.{sound_in, page_checks_in}

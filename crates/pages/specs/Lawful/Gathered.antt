@@ -6,12 +6,12 @@ use Rattle.std.proofs.Common.{sym, ◌∙◌, ap, ap₂, arith, ltb-false, le-lt
 use Rattle.std.proofs.lemmas.Bool.{not-false}
 use Rattle.std.proofs.lemmas.List.{length-map, length-replicate}
 use Rattle.theory.specs.Basics.{true, List, [], ◌∷◌, ◌++◌, map, length, get_or, take, drop, replicate, ℕ, zero, suc, ◌+◌}
-use Rattle.theory.specs.Basics.{◌-◌, ◌*◌, ◌/◌, ◌%◌, ◌^◌, ℤ, pos, nat_abs, ◌=?◌, every}
-use Rattle.theory.specs.Basics.Laws.{both, Each}
-use Rattle.theory.specs.Basics.Keep.{each-others, every-each, each-every}
+use Rattle.theory.specs.Basics.{◌-◌, ◌*◌, ◌/◌, ◌%◌, ◌^◌, ℤ, pos, nat_abs, ◌=?◌, every, Each}
+use Rattle.theory.proofs.Basics.Laws.{both}
+use Rattle.theory.proofs.Basics.Keep.{each-others, every-each, each-every}
 use Rattle.theory.specs.Limits.{page_limit}
 use Rattle.theory.specs.Refusals.{first_of}
-use Rattle.theory.specs.Refusals.Laws.{none-applies}
+use Rattle.theory.proofs.Refusals.Laws.{none-applies}
 use Rattle.pages.specs.Line.{Line}
 use Rattle.pages.specs.Gathering.{lasting, distinct, gathered}
 use Rattle.pages.specs.Gathering.Laws.{each-gathered, worth-gathered}

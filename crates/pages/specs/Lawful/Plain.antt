@@ -3,11 +3,11 @@ use Rattle.std.specs.Prelude.{◌≡◌, refl, ◌≤◌}
 use Rattle.std.proofs.Common.{◌∙◌, ap, le_refl, arith, ltb-false, le-ltb, length-take-le}
 use Rattle.std.proofs.lemmas.List.{length-map}
 use Rattle.theory.specs.Basics.{[], ◌∷◌, ◌++◌, map, length, take, drop, replicate, ℕ, ◌-◌}
-use Rattle.theory.specs.Basics.Laws.{each_append, sum-append}
-use Rattle.theory.specs.Basics.Keep.{total-append}
+use Rattle.theory.proofs.Basics.Laws.{each_append, sum-append}
+use Rattle.theory.proofs.Basics.Keep.{total-append}
 use Rattle.theory.specs.Limits.{page_limit}
 use Rattle.theory.specs.Refusals.{no-6}
-use Rattle.theory.specs.Refusals.Laws.{none-applies}
+use Rattle.theory.proofs.Refusals.Laws.{none-applies}
 use Rattle.pages.specs.Line.{signed_character}
 use Rattle.pages.specs.Page.{line_of, word_of, padded}
 use Rattle.pages.specs.Page.Words.{Plain, plain_lines}

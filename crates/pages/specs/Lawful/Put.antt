@@ -1,7 +1,6 @@
 -- Sound lines written down where there is room for them, with zeros after them, are sound.
 use Rattle.std.specs.Prelude.{◌≡◌, ◌≤◌}
-use Rattle.theory.specs.Basics.{true, List, length, ℕ}
-use Rattle.theory.specs.Basics.Laws.{Each}
+use Rattle.theory.specs.Basics.{true, List, length, ℕ, Each}
 use Rattle.pages.specs.Line.{Line}
 use Rattle.pages.specs.Page.{Slip}
 use Rattle.pages.specs.Mode.{Mode, waiting_in}

@@ -8,18 +8,21 @@ use Rattle.std.proofs.Common.{◌∙◌}
 use Rattle.std.proofs.lemmas.Simd.{map-map}
 use Rattle.std.proofs.lemmas.List.{length-map}
 use Rattle.theory.specs.Basics.{true, List, map, length, ℕ, ◌+◌, ◌-◌, ◌*◌, total, sum, ◌*ℤ◌, nat_abs, signed}
-use Rattle.theory.specs.Basics.Laws.{Each, each_map, sum_same, sum-map}
-use Rattle.theory.specs.Basics.Integers.Products.{times-sums, times-signed}
+use Rattle.theory.specs.Basics.{Each}
+use Rattle.theory.proofs.Basics.Laws.{each_map, sum_same, sum-map}
+use Rattle.theory.proofs.Basics.Integers.Products.{times-sums, times-signed}
 use Rattle.theory.specs.Partition.{Parts, times, without}
 use Rattle.theory.specs.Digits.{digits, width}
 use Rattle.theory.specs.ShapeWord.{shape_of, good_shape}
 use Rattle.theory.specs.ClassWord.{class_word, class_of, good_class}
-use Rattle.theory.specs.ClassWord.Laws.{GoodClass, good-class, class-good, parts-no-zero, without-good}
+use Rattle.theory.specs.ClassWord.Laws.{GoodClass}
+use Rattle.theory.proofs.ClassWord.Laws.{good-class, class-good, parts-no-zero, without-good}
 use Rattle.theory.specs.Character.{◌on◌}
 use Rattle.theory.specs.Hooks.{Hook, hook_words}
-use Rattle.theory.specs.Hooks.Words.{Left, hooks-leave, hooks-few, hook-rule-words}
-use Rattle.theory.specs.Hooks.Bounds.{hooks-total}
-use Rattle.theory.specs.Bounds.Laws.{abs-signed}
+use Rattle.theory.specs.Hooks.Words.{Left}
+use Rattle.theory.proofs.Hooks.Words.{hooks-leave, hooks-few, hook-rule-words}
+use Rattle.theory.proofs.Hooks.Bounds.{hooks-total}
+use Rattle.theory.proofs.Bounds.Laws.{abs-signed}
 use Rattle.pages.specs.Line.{Line, line_degree, signed_character, hook_line, hook_lines}
 
 abbrev pub Has : ℕ → Line → Type 0

@@ -2,9 +2,8 @@
 --   weight_of l   the weight of a line
 use Rattle.std.specs.Prelude.{◌≡◌, ◌≤◌}
 use Rattle.std.proofs.Common.{mul-zero, arith}
-use Rattle.theory.specs.Basics.{List, [], ◌∷◌, map, ℕ, ◌*◌, ℤ, nat_abs, total, sum}
-use Rattle.theory.specs.Basics.Laws.{Each}
-use Rattle.theory.specs.Bounds.Laws.{abs-add}
+use Rattle.theory.specs.Basics.{List, [], ◌∷◌, map, ℕ, ◌*◌, ℤ, nat_abs, total, sum, Each}
+use Rattle.theory.proofs.Bounds.Laws.{abs-add}
 use Rattle.pages.specs.Line.{Line}
 
 abbrev pub weight_of : Line → ℤ

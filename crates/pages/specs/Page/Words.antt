@@ -5,10 +5,9 @@ use Rattle.std.proofs.Common.{◌∙◌, ap, ap₂, arith, eq-eqb, ne_eqb, eqb-t
 use Rattle.std.proofs.lemmas.Bool.{eqb-false}
 use Rattle.theory.specs.Basics.{Bool, true, false, List, [], ◌∷◌, map, take, drop, get_or, ℕ, zero, suc, ◌+◌, ◌*◌, ◌/◌}
 use Rattle.theory.specs.Basics.{◌%◌, ◌^◌}
-use Rattle.theory.specs.Basics.{ℤ, pos, negsuc, nat_abs}
-use Rattle.theory.specs.Basics.Laws.{Each}
+use Rattle.theory.specs.Basics.{ℤ, pos, negsuc, nat_abs, Each}
 use Rattle.theory.specs.Digits.{bit}
-use Rattle.theory.specs.Bounds.Laws.{abs-signed}
+use Rattle.theory.proofs.Bounds.Laws.{abs-signed}
 use Rattle.pages.specs.Line.{Line}
 use Rattle.pages.specs.Page.{line_of, word_of, plain}
 

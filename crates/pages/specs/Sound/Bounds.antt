@@ -1,17 +1,17 @@
 -- What lines keep small: weights and, of sound lines, sums of signed characters, in whatever order they are added up.
 use Rattle.std.specs.Prelude.{◌≤◌}
 use Rattle.std.proofs.Common.{le_refl, mul-le-mul, mul-one, arith}
-use Rattle.theory.specs.Basics.{List, ℕ, nat_abs, sum}
-use Rattle.theory.specs.Basics.Laws.{Each, each_same}
-use Rattle.theory.specs.Basics.Integers.Products.{abs-times}
+use Rattle.theory.specs.Basics.{List, ℕ, nat_abs, sum, Each}
+use Rattle.theory.proofs.Basics.Laws.{each_same}
+use Rattle.theory.proofs.Basics.Integers.Products.{abs-times}
 use Rattle.theory.specs.Digits.{digits, width}
 use Rattle.theory.specs.ShapeWord.{shape_of}
 use Rattle.theory.specs.ClassWord.{class_of}
-use Rattle.theory.specs.ClassWord.Laws.{parts-no-zero}
+use Rattle.theory.proofs.ClassWord.Laws.{parts-no-zero}
 use Rattle.theory.specs.Character.{◌on◌}
-use Rattle.theory.specs.Hooks.Bounds.{word-bounded}
+use Rattle.theory.proofs.Hooks.Bounds.{word-bounded}
 use Rattle.theory.specs.Bounds.{factorial}
-use Rattle.theory.specs.Bounds.Laws.{factorial-positive}
+use Rattle.theory.proofs.Bounds.Laws.{factorial-positive}
 use Rattle.pages.specs.Page.{Slip}
 use Rattle.pages.specs.Line.{Line, line_degree, signed_character}
 use Rattle.pages.specs.Line.Weights.{sum-within}

@@ -8,16 +8,18 @@ use Rattle.std.proofs.Common.{le_trans}
 use Rattle.std.specs.Int.Signed.{non_neg}
 use borrow.Author.Tests.{leb-true, eqb-true, le-leb, eq-eqb, ltb-false, not-false}
 use Rattle.theory.specs.Basics.{true, List, [], ◌∷◌, map, length, drop, ℕ, ◌+◌, nat_abs, ◌=?◌, ◌≤?◌, every, total}
-use Rattle.theory.specs.Basics.Laws.{both, Each, each_same}
-use Rattle.theory.specs.Basics.Keep.{every-each, each-every}
+use Rattle.theory.specs.Basics.{Each}
+use Rattle.theory.proofs.Basics.Laws.{both, each_same}
+use Rattle.theory.proofs.Basics.Keep.{every-each, each-every}
 use Rattle.theory.specs.Limits.{page_limit}
 use Rattle.theory.specs.Partition.{degree}
 use Rattle.theory.specs.ShapeWord.{good_shape, shape_of}
-use Rattle.theory.specs.ShapeWord.Good.{shape-good}
+use Rattle.theory.proofs.ShapeWord.Good.{shape-good}
 use Rattle.theory.specs.ClassWord.{good_class, class_of}
 use Rattle.theory.specs.Bounds.{factorial, S}
 use Rattle.theory.specs.Refusals.{Check, first_of, pair_checks, no-7}
-use Rattle.theory.specs.Refusals.Laws.{Numbered, none-applies, both-pass, Matched, good-matched, pair-passes}
+use Rattle.theory.specs.Refusals.Laws.{Numbered, Matched}
+use Rattle.theory.proofs.Refusals.Laws.{none-applies, both-pass, good-matched, pair-passes}
 use Rattle.pages.specs.Line.{Line, line_degree}
 use Rattle.pages.specs.Page.{Slip}
 use Rattle.pages.specs.Mode.{Mode, waiting_in, plain_mode}

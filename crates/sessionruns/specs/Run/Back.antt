@@ -8,7 +8,7 @@ use Rattle.std.proofs.Common.{◌∙◌}
 use mathlib.Core.List.{cons-ne-nil}
 use Rattle.std.proofs.Math.IntN.{+ℤ_idl}
 use Rattle.theory.specs.Basics.{List, get_or, take, ℕ, pos, ◌+ℤ◌, nat_abs}
-use Rattle.theory.specs.Basics.Laws.{same_self}
+use Rattle.theory.proofs.Basics.Laws.{same_self}
 use Rattle.theory.specs.Limits.{degree_limit}
 use Rattle.theory.specs.Refusals.{first_of}
 use Rattle.words.specs.declared.CountAnswer.{CountAnswer}

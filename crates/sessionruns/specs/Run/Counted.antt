@@ -6,7 +6,7 @@ use Rattle.std.specs.Prelude.{◌≡◌, refl}
 use Rattle.std.proofs.Common.{arith}
 use Rattle.std.proofs.lemmas.Bool.{not-true}
 use Rattle.theory.specs.Basics.{Bool, true, false, not, cond, List, [], ◌∷◌, length, ℕ, ◌+◌, ◌=?◌, keep, count, every}
-use Rattle.theory.specs.Basics.Laws.{both}
+use Rattle.theory.proofs.Basics.Laws.{both}
 use Rattle.sessiontext.specs.SessionText.{Form}
 use Rattle.sessionruns.specs.Run.{Call, opened, previewed, committed, watched, saved, loaded}
 use Rattle.sessionruns.specs.Run.{Standing, after, Run}

@@ -10,7 +10,7 @@ use Rattle.theory.specs.Basics.{true, List, [], ◌∷◌, ◌++◌, length, tak
 use Rattle.theory.specs.Limits.{degree_limit}
 use Rattle.theory.specs.Partition.{degree}
 use Rattle.theory.specs.ShapeWord.{shape_of}
-use Rattle.theory.specs.ShapeWord.InFront.{dropped-shape}
+use Rattle.theory.proofs.ShapeWord.InFront.{dropped-shape}
 use Rattle.theory.specs.ClassWord.{class_of}
 use Rattle.theory.specs.Character.{◌on◌}
 use Rattle.theory.specs.Bounds.{S}

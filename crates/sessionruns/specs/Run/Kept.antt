@@ -5,7 +5,8 @@ use Rattle.std.specs.Prelude.{◌≡◌, refl, ◌≤◌}
 use Rattle.std.proofs.Common.{sym, ◌∙◌, ap, arith, eqb-true}
 use Rattle.std.proofs.lemmas.Bool.{eqb-false}
 use Rattle.theory.specs.Basics.{Bool, true, false, cond, List, [], ◌∷◌, map, length, get_or, take, ℕ, ◌=?◌, keep, same}
-use Rattle.theory.specs.Basics.Laws.{Each, same_lists}
+use Rattle.theory.specs.Basics.{Each}
+use Rattle.theory.proofs.Basics.Laws.{same_lists}
 use Rattle.theory.specs.Limits.{degree_limit}
 use Rattle.theory.specs.Refusals.{first_of}
 use Rattle.words.specs.declared.CountAnswer.{CountAnswer}

@@ -3,7 +3,7 @@ use mathlib.Core.Path.{◌≡◌, sym, ◌∙◌, ap}
 use native.Mathlib.Omega.{arith}
 use borrow.Author.Rules.{rules}
 use Rattle.theory.specs.Basics.{get_or}
-use Rattle.theory.specs.ClassWord.Laws.{good-class}
+use Rattle.theory.proofs.ClassWord.Laws.{good-class}
 use Rattle.theory.specs.Refusals.{first_of}
 use Rattle.theory.specs.Limits.{degree_limit}
 use Rattle.pages.specs.Page.{line_of}

@@ -10,23 +10,24 @@ use Rattle.std.proofs.Common.{◌∙◌, arith, ltb-false, eq-eqb, ne_eqb}
 use Rattle.std.proofs.Math.Nat.{le_refl}
 use Rattle.std.proofs.Math.Decide.{ℕ_discrete}
 use Rattle.std.proofs.Math.IntN.{+ℤ_idl, +ℤ_idr, *ℤ_comm}
-use Rattle.theory.specs.Basics.{true, List, [], ◌∷◌, ◌++◌, length, ℕ, ◌+◌, ℤ, pos, ◌+ℤ◌, nat_abs, sum}
-use Rattle.theory.specs.Basics.Laws.{Each}
-use Rattle.theory.specs.Basics.Integers.Products.{times-one}
+use Rattle.theory.specs.Basics.{true, List, [], ◌∷◌, ◌++◌, length, ℕ, ◌+◌, ℤ, pos, ◌+ℤ◌, nat_abs, sum, Each}
+use Rattle.theory.proofs.Basics.Integers.Products.{times-one}
 use Rattle.theory.specs.Partition.{Parts, degree}
 use Rattle.theory.specs.Digits.{digits, width}
 use Rattle.theory.specs.ShapeWord.{shape_of, good_word}
-use Rattle.theory.specs.ShapeWord.InFront.{SameShape, dropped-shape, one-good-word}
-use Rattle.theory.specs.ShapeWord.Good.{shape-good}
-use Rattle.theory.specs.ShapeWord.Laws.{rows-partition}
+use Rattle.theory.specs.ShapeWord.InFront.{SameShape}
+use Rattle.theory.proofs.ShapeWord.InFront.{dropped-shape, one-good-word}
+use Rattle.theory.proofs.ShapeWord.Good.{shape-good}
+use Rattle.theory.proofs.ShapeWord.Laws.{rows-partition}
 use Rattle.theory.specs.ClassWord.{class_of}
-use Rattle.theory.specs.ClassWord.Laws.{class-good}
+use Rattle.theory.proofs.ClassWord.Laws.{class-good}
 use Rattle.theory.specs.Character.{◌on◌}
-use Rattle.theory.specs.Character.Order.{empty-on-empty}
+use Rattle.theory.proofs.Character.Order.{empty-on-empty}
 use Rattle.theory.specs.Bounds.{factorial, S}
 use Rattle.theory.specs.Refusals.{Check, first_of, pair_checks, no-10}
-use Rattle.theory.specs.Refusals.Laws.{or-refused, answer-number, none-applies, both-pass, Matched, matched}
-use Rattle.theory.specs.Refusals.Laws.{first-refuses, first_passes}
+use Rattle.theory.specs.Refusals.Laws.{Matched}
+use Rattle.theory.proofs.Refusals.Laws.{or-refused, answer-number, none-applies, both-pass, matched}
+use Rattle.theory.proofs.Refusals.Laws.{first-refuses, first_passes}
 use Rattle.words.specs.Answers.{Outcome}
 use Rattle.pages.specs.Line.{Line, signed_character}
 use Rattle.pages.specs.declared.Slip.{Slip}

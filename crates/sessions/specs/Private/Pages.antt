@@ -4,8 +4,7 @@
 --   Exchanges p i k xs   line i is one of k lines, other words are 0, and without it there is room for the words xs
 --   exchanged p i k xs   others p i k and xs, and zeros after them
 use Rattle.std.specs.Prelude.{◌≡◌, ◌<◌, ◌≤◌}
-use Rattle.theory.specs.Basics.{List, ◌∷◌, ◌++◌, length, take, drop, replicate, ℕ, suc, ◌+◌, ◌-◌}
-use Rattle.theory.specs.Basics.Laws.{Each}
+use Rattle.theory.specs.Basics.{List, ◌∷◌, ◌++◌, length, take, drop, replicate, ℕ, suc, ◌+◌, ◌-◌, Each}
 
 abbrev pub others : List ℕ → ℕ → ℕ → List ℕ
 others page line lines = take line (take lines page) ++ drop (suc line) (take lines page)

@@ -13,14 +13,15 @@ use Rattle.std.proofs.Common.{sym, ◌∙◌, ap₂, arith, eqb-true}
 use Rattle.std.proofs.Math.IntN.{+ℤ_idl, +ℤ_idr, +ℤ_invr, +ℤ-neg_ℤ_cancel}
 use Rattle.std.proofs.Math.Seq.{split_at}
 use Rattle.theory.specs.Basics.{Bool, true, false, not, List, [], ◌∷◌, ◌++◌, length, get_or, take, drop, ℕ, suc, ℤ, pos}
-use Rattle.theory.specs.Basics.{◌+ℤ◌, ◌-ℤ◌, ◌=?◌, every, sum}
-use Rattle.theory.specs.Basics.AtPlace.{each_at}
-use Rattle.theory.specs.Basics.Integers.{sums, swap-back}
-use Rattle.theory.specs.Basics.Laws.{both, Each, each_same, sum-append}
+use Rattle.theory.specs.Basics.{◌+ℤ◌, ◌-ℤ◌, ◌=?◌, every, sum, Each}
+use Rattle.theory.proofs.Basics.AtPlace.{each_at}
+use Rattle.theory.specs.Basics.Integers.{sums}
+use Rattle.theory.proofs.Basics.Integers.{swap-back}
+use Rattle.theory.proofs.Basics.Laws.{both, each_same, sum-append}
 use Rattle.theory.specs.Partition.{degree}
 use Rattle.theory.specs.ShapeWord.{shape_of}
 use Rattle.theory.specs.Refusals.{first_of}
-use Rattle.theory.specs.Refusals.Laws.{answer-given}
+use Rattle.theory.proofs.Refusals.Laws.{answer-given}
 use Rattle.words.specs.Answers.{Outcome}
 use Rattle.pages.specs.Line.{Line}
 use Rattle.pages.specs.declared.Slip.{Slip}

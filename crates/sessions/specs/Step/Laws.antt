@@ -6,15 +6,16 @@ use Rattle.std.specs.Prelude.{◌≡◌, ◌≤◌, ◌<◌}
 use Rattle.std.proofs.Math.Path.{refl}
 use Rattle.std.proofs.Common.{◌∙◌, ap, arith, ltb-false, leb-false}
 use Rattle.std.proofs.lemmas.Bool.{eqb-false}
-use Rattle.theory.specs.Basics.{List, [], ◌∷◌, length, ℕ}
-use Rattle.theory.specs.Basics.AtPlace.{each_at}
-use Rattle.theory.specs.Basics.Laws.{Each, each_same}
+use Rattle.theory.specs.Basics.{List, [], ◌∷◌, length, ℕ, Each}
+use Rattle.theory.proofs.Basics.AtPlace.{each_at}
+use Rattle.theory.proofs.Basics.Laws.{each_same}
 use Rattle.theory.specs.Limits.{page_limit}
-use Rattle.theory.specs.ShapeWord.Good.{good-shape}
+use Rattle.theory.proofs.ShapeWord.Good.{good-shape}
 use Rattle.theory.specs.ClassWord.{class_of}
-use Rattle.theory.specs.ClassWord.Laws.{good-class}
+use Rattle.theory.proofs.ClassWord.Laws.{good-class}
 use Rattle.theory.specs.Refusals.{Check, first_of, no-8, no_9, no-10, no-19}
-use Rattle.theory.specs.Refusals.Laws.{Numbered, none-applies, both-pass}
+use Rattle.theory.specs.Refusals.Laws.{Numbered}
+use Rattle.theory.proofs.Refusals.Laws.{none-applies, both-pass}
 use Rattle.pages.specs.Line.{Line}
 use Rattle.pages.specs.Line.Hooks.{hook-line-class}
 use Rattle.pages.specs.declared.Slip.{Slip}

@@ -9,12 +9,12 @@ use native.Mathlib.Omega.{arith}
 use Rattle.std.proofs.Math.Seq.{split_at}
 use Rattle.std.specs.Int.Signed.{non_neg}
 use Rattle.theory.specs.Basics.{true, List, ◌∷◌, ◌++◌, length, map, take, drop, ℕ, suc, ◌+◌, ◌-◌, ℤ, pos, negsuc, ◌+ℤ◌}
-use Rattle.theory.specs.Basics.{nat_abs, total, sum}
+use Rattle.theory.specs.Basics.{nat_abs, total, sum, Each}
 use Rattle.theory.specs.Basics.Integers.{sums}
-use Rattle.theory.specs.Basics.Laws.{Each, sum-append}
-use Rattle.theory.specs.Basics.Keep.{each-parts, each-others, total-append}
+use Rattle.theory.proofs.Basics.Laws.{sum-append}
+use Rattle.theory.proofs.Basics.Keep.{each-parts, each-others, total-append}
 use Rattle.theory.specs.Bounds.{factorial}
-use Rattle.theory.specs.Bounds.Laws.{abs-add}
+use Rattle.theory.proofs.Bounds.Laws.{abs-add}
 use Rattle.pages.specs.Line.{Line, signed_character}
 use Rattle.pages.specs.Line.Hooks.{Has}
 use Rattle.pages.specs.Line.Weights.{weight_of}

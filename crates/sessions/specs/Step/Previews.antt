@@ -9,13 +9,13 @@ use Rattle.std.proofs.lemmas.Bool.{eqb-false, not-false, not-true}
 use Rattle.std.proofs.lemmas.List.{map-append, length-map}
 use Rattle.theory.specs.Basics.{Bool, true, false, not, cond, List, [], ◌∷◌, ◌++◌, length, take, ℕ, ◌=?◌, ◌<?◌, every}
 use Rattle.theory.specs.Basics.{map, drop, replicate, suc, ◌-◌, ℤ}
-use Rattle.theory.specs.Basics.Laws.{both, same_lists, same_self}
-use Rattle.theory.specs.Basics.Keep.{length-keep}
+use Rattle.theory.proofs.Basics.Laws.{both, same_lists, same_self}
+use Rattle.theory.proofs.Basics.Keep.{length-keep}
 use Rattle.theory.specs.Partition.{degree}
 use Rattle.theory.specs.ShapeWord.{shape_of}
 use Rattle.theory.specs.Refusals.{Check, first_of, no-10, no-18, no-19}
-use Rattle.theory.specs.Refusals.Laws.{Numbered, first-refuses, first_passes, both-pass, none-applies}
-use Rattle.theory.specs.Refusals.Laws.{answer-number}
+use Rattle.theory.specs.Refusals.Laws.{Numbered}
+use Rattle.theory.proofs.Refusals.Laws.{first-refuses, first_passes, both-pass, none-applies, answer-number}
 use Rattle.words.specs.declared.CountAnswer.{CountAnswer}
 use Rattle.words.specs.Answers.{count_answer}
 use Rattle.pages.specs.Line.{Line, line_degree, hook_lines}

@@ -6,20 +6,20 @@ use Rattle.std.proofs.Math.Path.{ap}
 use Rattle.std.proofs.Math.Decide.{ℕ_discrete}
 use borrow.Author.Tests.{eqb-true, eqb-false, not-true}
 use Rattle.theory.specs.Basics.{true, not, map, ℕ, ◌+◌, ◌*◌, ◌+ℤ◌, nat_abs, total, sum}
-use Rattle.theory.specs.Basics.{◌=?◌}
-use Rattle.theory.specs.Basics.Laws.{Each, each_same, each_member, map_same, sum_same}
-use Rattle.theory.specs.Basics.Keep.{each_keep, sum-keep, total-keep}
-use Rattle.theory.specs.Basics.Integers.Products.{times-one}
+use Rattle.theory.specs.Basics.{◌=?◌, Each}
+use Rattle.theory.proofs.Basics.Laws.{each_same, each_member, map_same, sum_same}
+use Rattle.theory.proofs.Basics.Keep.{each_keep, sum-keep, total-keep}
+use Rattle.theory.proofs.Basics.Integers.Products.{times-one}
 use Rattle.theory.specs.Partition.{degree}
-use Rattle.theory.specs.Partition.Laws.{without-degree, times_zero}
+use Rattle.theory.proofs.Partition.Laws.{without-degree, times_zero}
 use Rattle.theory.specs.Digits.{digits, width}
 use Rattle.theory.specs.ShapeWord.{shape_of}
-use Rattle.theory.specs.ShapeWord.Words.{empty-word}
-use Rattle.theory.specs.ShapeWord.Laws.{rows-partition}
+use Rattle.theory.proofs.ShapeWord.Words.{empty-word}
+use Rattle.theory.proofs.ShapeWord.Laws.{rows-partition}
 use Rattle.theory.specs.ClassWord.{class_of}
-use Rattle.theory.specs.ClassWord.Laws.{good-class, parts-no-zero}
-use Rattle.theory.specs.Character.Order.{empty-on-empty}
-use Rattle.theory.specs.Hooks.Bounds.{step-factorial, step-S}
+use Rattle.theory.proofs.ClassWord.Laws.{good-class, parts-no-zero}
+use Rattle.theory.proofs.Character.Order.{empty-on-empty}
+use Rattle.theory.proofs.Hooks.Bounds.{step-factorial, step-S}
 use Rattle.theory.specs.Bounds.{factorial, S}
 use Rattle.pages.specs.Line.{Line, line_degree, signed_character, hook_lines}
 use Rattle.pages.specs.Line.Hooks.{Has, HookLine, hook-lines, over-hook-lines, hook-line-class}

@@ -4,8 +4,7 @@ use Prim.Native.Nat.{◌≤◌}
 use native.Mathlib.Omega.{arith}
 use lib.ListN.{length-map}
 use borrow.Author.Tests.{not-true, not-false, lt-ltb, le-ltb}
-use Rattle.theory.specs.Basics.{List, ℕ, length, drop}
-use Rattle.theory.specs.Basics.Laws.{Each}
+use Rattle.theory.specs.Basics.{List, ℕ, length, drop, Each}
 use Rattle.theory.specs.Limits.{degree_limit, page_limit}
 use Rattle.theory.specs.Refusals.{first_of}
 use Rattle.pages.specs.declared.Slip.{Slip}

@@ -16,12 +16,12 @@ use Rattle.std.proofs.lemmas.List.{length-map}
 use Rattle.std.proofs.Math.Seq.{take-append_seam}
 use borrow.Author.Tests.{ltb-false, le-ltb, eqb-true, not-false}
 use Rattle.theory.specs.Basics.{Bool, true, false, ◌&&◌, cond, List, [], ◌∷◌, ◌++◌, length, take, ℕ, ◌+◌, ◌*◌}
-use Rattle.theory.specs.Basics.{zero, suc, ◌=?◌, ◌<?◌}
-use Rattle.theory.specs.Basics.Laws.{both, Each, each_map}
+use Rattle.theory.specs.Basics.{zero, suc, ◌=?◌, ◌<?◌, Each}
+use Rattle.theory.proofs.Basics.Laws.{both, each_map}
 use Rattle.theory.specs.Digits.{width}
 use Rattle.theory.specs.Limits.{degree_limit, page_limit}
 use Rattle.theory.specs.Refusals.{Check, first_of, refused_or, no-7, no-10, no-16, no-17}
-use Rattle.theory.specs.Refusals.Laws.{none-applies, both-pass, first_passes, answer-given}
+use Rattle.theory.proofs.Refusals.Laws.{none-applies, both-pass, first_passes, answer-given}
 use Rattle.words.specs.declared.CountAnswer.{CountAnswer}
 use Rattle.words.specs.Answers.{count_answer, at_front}
 use Rattle.text.specs.Text.{Text}

@@ -8,8 +8,7 @@
 --   AllFormed text start slip the lines of the text from a place on are of their form, and as many as the slip says
 use Rattle.std.specs.Prelude.{◌≡◌, ◌≤◌}
 use Rattle.std.proofs.lemmas.List.Edits.{sets}
-use Rattle.theory.specs.Basics.{true, ◌&&◌, List, map, ◌++◌, ℕ, ℤ, length, drop}
-use Rattle.theory.specs.Basics.Laws.{Each}
+use Rattle.theory.specs.Basics.{true, ◌&&◌, List, map, ◌++◌, ℕ, ℤ, length, drop, Each}
 use Rattle.theory.specs.Limits.{degree_limit, page_limit}
 use Rattle.theory.specs.Refusals.{Check, first_of}
 use Rattle.text.specs.Text.{Text}

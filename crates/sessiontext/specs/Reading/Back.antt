@@ -7,13 +7,13 @@ use Rattle.std.proofs.Math.ListN.{length-map}
 use Rattle.std.proofs.Math.Seq.{drop_at}
 use Rattle.std.specs.Int.Signed.{non_neg}
 use Rattle.theory.specs.Basics.{true, not, List, [], ◌∷◌, ◌++◌, map, length, drop, ℕ, ◌^◌, ℤ, pos, negsuc}
-use Rattle.theory.specs.Basics.{nat_abs, ◌=?◌, every}
-use Rattle.theory.specs.Basics.Laws.{Each, each_append, each_map}
+use Rattle.theory.specs.Basics.{nat_abs, ◌=?◌, every, Each}
+use Rattle.theory.proofs.Basics.Laws.{each_append, each_map}
 use Rattle.theory.specs.Partition.{Parts, degree}
 use Rattle.theory.specs.Digits.{width}
 use Rattle.theory.specs.ShapeWord.{shape_of}
-use Rattle.theory.specs.ShapeWord.Good.{shape-good}
-use Rattle.theory.specs.ShapeWord.Words.{shape-back}
+use Rattle.theory.proofs.ShapeWord.Good.{shape-good}
+use Rattle.theory.proofs.ShapeWord.Words.{shape-back}
 use Rattle.theory.specs.ClassWord.{class_of}
 use Rattle.text.specs.Text.{Text, ascii, decimal, integer, list_text, text_line, field}
 use Rattle.textreading.specs.Reading.{lines_of}

@@ -3,15 +3,15 @@ use Rattle.std.specs.Prelude.{◌≡◌, ◌<◌}
 use Rattle.std.proofs.Math.Path.{refl, sym, ap}
 use Rattle.std.proofs.Common.{◌∙◌, ap₂, arith}
 use Rattle.std.proofs.Math.ListN.{length-map}
-use Rattle.theory.specs.Basics.{true, List, [], ◌∷◌, ◌++◌, map, length, get_or, drop, ℕ, suc, joined}
-use Rattle.theory.specs.Basics.Laws.{Each}
+use Rattle.theory.specs.Basics.{true, List, [], ◌∷◌, ◌++◌, map, length, get_or, drop, ℕ, suc, joined, Each}
 use Rattle.theory.specs.Partition.{Parts}
 use Rattle.theory.specs.Digits.{width}
 use Rattle.theory.specs.ShapeWord.{shape_word, shape_of}
-use Rattle.theory.specs.ShapeWord.Good.{good-shape}
-use Rattle.theory.specs.ShapeWord.Words.{small-has-room, word_back, rows-good}
+use Rattle.theory.proofs.ShapeWord.Good.{good-shape}
+use Rattle.theory.proofs.ShapeWord.Words.{small-has-room, word_back, rows-good}
 use Rattle.theory.specs.ClassWord.{class_word, class_of}
-use Rattle.theory.specs.ClassWord.Laws.{Held, class-of-word, word_good}
+use Rattle.theory.specs.ClassWord.Laws.{Held}
+use Rattle.theory.proofs.ClassWord.Laws.{class-of-word, word_good}
 use Rattle.theory.specs.Refusals.Laws.{Within, WithinClass}
 use Rattle.text.specs.Text.{Text}
 use Rattle.textreading.specs.Reading.{before, lines_of}

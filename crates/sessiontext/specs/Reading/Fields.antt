@@ -4,17 +4,17 @@ use Rattle.std.specs.Prelude.{◌≡◌, ◌≤◌, ◌<◌}
 use Rattle.std.proofs.Math.Path.{refl}
 use Rattle.std.proofs.Common.{sym, ◌∙◌, ap, arith}
 use mathlib.Core.List.{append_assoc, append-nil}
-use Rattle.theory.specs.Basics.{true, not, [], ◌∷◌, ◌++◌, ℕ, ◌^◌, ℤ, ◌=?◌, every}
-use Rattle.theory.specs.Basics.Laws.{Each, each_append}
+use Rattle.theory.specs.Basics.{true, not, [], ◌∷◌, ◌++◌, ℕ, ◌^◌, ℤ, ◌=?◌, every, Each}
+use Rattle.theory.proofs.Basics.Laws.{each_append}
 use Rattle.theory.specs.Partition.{Parts, is_partition, degree}
-use Rattle.theory.specs.Partition.Laws.{front}
+use Rattle.theory.proofs.Partition.Laws.{front}
 use Rattle.theory.specs.Digits.{digits, width}
 use Rattle.theory.specs.ShapeWord.{shape_word, shape_of}
-use Rattle.theory.specs.ShapeWord.Good.{shape-good}
-use Rattle.theory.specs.ShapeWord.Words.{shape-back}
-use Rattle.theory.specs.ShapeWord.Laws.{rows-partition}
+use Rattle.theory.proofs.ShapeWord.Good.{shape-good}
+use Rattle.theory.proofs.ShapeWord.Words.{shape-back}
+use Rattle.theory.proofs.ShapeWord.Laws.{rows-partition}
 use Rattle.theory.specs.ClassWord.{class_word, class_of}
-use Rattle.theory.specs.ClassWord.Laws.{word-of-class}
+use Rattle.theory.proofs.ClassWord.Laws.{word-of-class}
 use Rattle.theory.specs.Refusals.Laws.{Within, WithinClass}
 use Rattle.text.specs.Text.{Text, ascii, decimal, integer, list_text, text_line, field}
 use Rattle.textreading.specs.Reading.{is_digit, number_in, integer_in, before, behind, list_in}

@@ -9,11 +9,12 @@ use Rattle.std.proofs.Math.Path.{refl}
 use Rattle.std.proofs.Common.{◌∙◌, add-suc, arith}
 use borrow.Author.Tests.{ltb-true, lt-ltb, leb-true, le-leb, eqb-true, eq-eqb, not-false}
 use Rattle.theory.specs.Basics.{Bool, true, false, ◌&&◌, List, [], ◌∷◌, ◌++◌, length, get_or, drop, ℕ, suc, ◌+◌, ◌^◌}
-use Rattle.theory.specs.Basics.{◌<?◌, ◌≤?◌, every, same}
-use Rattle.theory.specs.Basics.Laws.{Each, both, same_lists, same_self}
+use Rattle.theory.specs.Basics.{◌<?◌, ◌≤?◌, every, same, Each}
+use Rattle.theory.proofs.Basics.Laws.{both, same_lists, same_self}
 use Rattle.theory.specs.Partition.{Parts, is_partition, degree}
 use Rattle.theory.specs.Refusals.{Check, first_of}
-use Rattle.theory.specs.Refusals.Laws.{Numbered, none-applies, both-pass, first_passes}
+use Rattle.theory.specs.Refusals.Laws.{Numbered}
+use Rattle.theory.proofs.Refusals.Laws.{none-applies, both-pass, first_passes}
 use Rattle.text.specs.Text.{Text, ascii, decimal, integer, list_text, text_line, field}
 use Rattle.textreading.specs.Reading.{number_in, integer_in, list_in, lines_of}
 use Rattle.sessiontext.specs.SessionText.{held, Form, plain_form, gathered_form, weighted_text}

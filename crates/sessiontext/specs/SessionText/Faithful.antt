@@ -3,8 +3,7 @@
 --   Faithful f    the laws of the form f; Kept z, that the weight z comes back; weight_room, how many bytes are enough
 --                 for the text of such a weight
 use Rattle.std.specs.Prelude.{◌≡◌, ◌≤◌, ◌<◌}
-use Rattle.theory.specs.Basics.{true, ◌++◌, length, ℕ, ◌^◌, ℤ, nat_abs, joined}
-use Rattle.theory.specs.Basics.Laws.{Each}
+use Rattle.theory.specs.Basics.{true, ◌++◌, length, ℕ, ◌^◌, ℤ, nat_abs, joined, Each}
 use Rattle.text.specs.Text.{Text, ascii}
 use Rattle.textreading.specs.Reading.Bytes.{Within}
 use Rattle.textreading.specs.Reading.Lines as lines-of-text

@@ -11,9 +11,9 @@ use Rattle.std.proofs.Common.{lt_of_not-le}
 use Rattle.std.proofs.Math.ListN.{length-append}
 use Rattle.theory.specs.Basics.{Bool, true, List, [], ◌∷◌, ◌++◌, map, length, ℕ, ◌+◌, ◌-◌, ◌*◌, ◌^◌}
 use Rattle.theory.specs.Basics.{nat_abs, joined}
-use Rattle.theory.specs.Basics.Laws.{each_same, joined_length}
+use Rattle.theory.proofs.Basics.Laws.{each_same, joined_length}
 use Rattle.theory.specs.Partition.{Parts, is_partition, degree}
-use Rattle.theory.specs.Partition.Laws.{front}
+use Rattle.theory.proofs.Partition.Laws.{front}
 use Rattle.theory.specs.Digits.{width}
 use Rattle.theory.specs.ShapeWord.{shape_of}
 use Rattle.theory.specs.ClassWord.{class_of}

@@ -6,12 +6,12 @@
 use Rattle.std.specs.Prelude.{◌≡◌, ◌≤◌, ◌<◌}
 use Rattle.std.proofs.Common.{arith}
 use Rattle.std.specs.Int.Signed.{non_neg}
-use Rattle.theory.specs.Basics.{true, List, [], ◌∷◌, length, ℕ, ◌^◌, ℤ, nat_abs}
-use Rattle.theory.specs.Basics.Laws.{Each, each_same, each_both}
-use Rattle.theory.specs.ShapeWord.Good.{good-shape}
-use Rattle.theory.specs.ClassWord.Laws.{good-class}
+use Rattle.theory.specs.Basics.{true, List, [], ◌∷◌, length, ℕ, ◌^◌, ℤ, nat_abs, Each}
+use Rattle.theory.proofs.Basics.Laws.{each_same, each_both}
+use Rattle.theory.proofs.ShapeWord.Good.{good-shape}
+use Rattle.theory.proofs.ClassWord.Laws.{good-class}
 use Rattle.theory.specs.Bounds.{factorial, S}
-use Rattle.theory.specs.Bounds.Laws.{factorial-rises, S-rises}
+use Rattle.theory.proofs.Bounds.Laws.{factorial-rises, S-rises}
 use Rattle.theory.specs.Limits.{degree_limit}
 use Rattle.theory.specs.Refusals.{first_of}
 use Rattle.theory.specs.Refusals.Laws.{Within, WithinClass}

@@ -5,9 +5,9 @@ use Rattle.std.proofs.Common.{sym, ◌∙◌, ap, inl, inr, ⊎_elim, arith, len
 use Rattle.std.proofs.Math.Decide.{ℕ_discrete}
 use borrow.Author.Tests.{lt-ltb, le-ltb}
 use Rattle.theory.specs.Basics.{Bool, true, List, [], ◌∷◌, ℕ, zero, suc, length, take}
-use Rattle.theory.specs.Basics.{every, down_from, same}
-use Rattle.theory.specs.Basics.Laws.{Each, both, same_lists}
-use Rattle.theory.specs.Basics.Keep.{each_keep}
+use Rattle.theory.specs.Basics.{every, down_from, same, Each}
+use Rattle.theory.proofs.Basics.Laws.{both, same_lists}
+use Rattle.theory.proofs.Basics.Keep.{each_keep}
 use Rattle.theory.specs.Listing.{listing}
 use Rattle.text.specs.Text.{Text, decimal, field}
 use Rattle.text.specs.Text.Decimals.{decimal-length}

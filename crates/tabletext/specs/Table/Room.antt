@@ -9,25 +9,25 @@ use native.Mathlib.Omega.{arith}
 use Rattle.std.proofs.Math.ListN.{length-append}
 use Rattle.std.proofs.lemmas.List.{length-map}
 use Rattle.theory.specs.Basics.{not, List, [], ◌∷◌, ◌++◌, map, ℕ, zero, suc, ◌+◌, ◌*◌, ◌^◌, ℤ, length, get_or}
-use Rattle.theory.specs.Basics.{◌=?◌, ◌≤?◌, joined}
-use Rattle.theory.specs.Basics.Laws.{Each, each_same, each_map, each_member}
-use Rattle.theory.specs.Basics.AtPlace.{every-at}
-use Rattle.theory.specs.Basics.Laws.{joined_length}
+use Rattle.theory.specs.Basics.{◌=?◌, ◌≤?◌, joined, Each}
+use Rattle.theory.proofs.Basics.Laws.{each_same, each_map, each_member, joined_length}
+use Rattle.theory.proofs.Basics.AtPlace.{every-at}
 use Rattle.theory.specs.Partition.{Parts}
-use Rattle.theory.specs.Partition.Laws.{no_zero, length-degree}
+use Rattle.theory.proofs.Partition.Laws.{no_zero, length-degree}
 use Rattle.theory.specs.Character.{◌on◌}
 use Rattle.theory.specs.ClassData.{class_size}
 use Rattle.theory.specs.Bounds.{factorial}
-use Rattle.theory.specs.Bounds.Laws.{factorial-rises}
-use Rattle.theory.specs.Hooks.Bounds.{character-bounded}
+use Rattle.theory.proofs.Bounds.Laws.{factorial-rises}
+use Rattle.theory.proofs.Hooks.Bounds.{character-bounded}
 use Rattle.theory.specs.Listing.{listing, partition_counts}
 use Rattle.theory.specs.Column.{column}
-use Rattle.theory.specs.Listing.Laws.{count_kept}
-use Rattle.theory.specs.Listing.Order.{UpTo, each-listed}
-use Rattle.theory.specs.Column.Laws.{column-length}
+use Rattle.theory.proofs.Listing.Laws.{count_kept}
+use Rattle.theory.specs.Listing.Order.{UpTo}
+use Rattle.theory.proofs.Listing.Order.{each-listed}
+use Rattle.theory.proofs.Column.Laws.{column-length}
 use Rattle.theory.specs.Limits.{degree_limit}
 use Rattle.theory.specs.Refusals.{Check, first_of, refused_or, no-12, no-13}
-use Rattle.theory.specs.Refusals.Laws.{none-applies}
+use Rattle.theory.proofs.Refusals.Laws.{none-applies}
 use Rattle.listing.specs.Private.Tables.{most_partitions}
 use Rattle.text.specs.Text.{Text, ascii, decimal, integer, commas, text_line, field}
 use Rattle.text.specs.Text.Decimals.{decimal-most, integer-length}

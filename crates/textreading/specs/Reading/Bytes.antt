@@ -5,8 +5,8 @@ use Rattle.std.specs.Prelude.{◌≡◌, refl, ◌≤◌, ◌<◌}
 use Rattle.std.proofs.Common.{ap, arith, ne_eqb, eq-eqb}
 use Rattle.std.proofs.lemmas.Bool.{not-true}
 use Rattle.theory.specs.Basics.{Bool, true, false, not, cond, List, [], ◌∷◌, ◌++◌, map, ℕ, zero, suc, ◌+◌, ◌/◌, ◌%◌}
-use Rattle.theory.specs.Basics.{ℤ, pos, negsuc, ◌=?◌, ◌<?◌, joined, every, length, take, drop}
-use Rattle.theory.specs.Basics.Laws.{Each, both, each_append, each_same}
+use Rattle.theory.specs.Basics.{ℤ, pos, negsuc, ◌=?◌, ◌<?◌, joined, every, length, take, drop, Each}
+use Rattle.theory.proofs.Basics.Laws.{both, each_append, each_same}
 use Rattle.text.specs.Text.{Text, ascii, decimal_in, decimal, integer, commas, list_text}
 use Rattle.textreading.specs.Reading.{holds, before, behind}
 

@@ -6,8 +6,8 @@ use Rattle.std.specs.Prelude.{◌≡◌, ◌≤◌, ◌<◌}
 use Rattle.std.proofs.Math.Path.{refl}
 use Rattle.std.proofs.Common.{ap, append_assoc, arith, length-drop, drop-drop}
 use Rattle.theory.specs.Basics.{Bool, true, false, cond, List, [], ◌∷◌, ◌++◌, ℕ, suc, ◌+◌, ◌-◌, ◌=?◌, joined, length}
-use Rattle.theory.specs.Basics.{get_or, take, drop}
-use Rattle.theory.specs.Basics.Laws.{Each, each_append}
+use Rattle.theory.specs.Basics.{get_or, take, drop, Each}
+use Rattle.theory.proofs.Basics.Laws.{each_append}
 use Rattle.text.specs.Text.{Text, ascii, text_line}
 use Rattle.textreading.specs.Reading.{holds, before, in_front, lines_of, first_line}
 use Rattle.textreading.specs.Reading.Bytes.{Without}

@@ -13,8 +13,6 @@ use Rattle.theory.specs.Basics.{Bool, cond, List, [], ◌∷◌, ℕ, zero, suc,
 use Rattle.theory.specs.Digits.{bit}
 use Rattle.theory.specs.ShapeWord.Shifting.{ones_out}
 use Rattle.theory.specs.Hooks.{Hook}
-pub mod Laws
-pub mod Walk
 pub mod Stretch
 
 unfoldable pub marks : ℕ → ℕ → ℕ

@@ -1,15 +1,8 @@
 -- A good shape word (document 01, "Good shape words are exactly the numbers below 2^30"), as a record.
 --   GoodShape w   w is a good shape word
-use Rattle.std.specs.Prelude.{◌≡◌, ◌<◌}
-use Rattle.std.proofs.Common.{ltb-true, lt-ltb}
-use Rattle.theory.specs.Basics.{true, ℕ, ◌^◌}
-use Rattle.theory.specs.ShapeWord.{shape_width, good_shape}
+use Rattle.std.specs.Prelude.{◌<◌}
+use Rattle.theory.specs.Basics.{ℕ, ◌^◌}
+use Rattle.theory.specs.ShapeWord.{shape_width}
 
 pub record GoodShape (w : ℕ) : Type 0 where
   pub below : w < 2 ^ shape_width
-
-pub good-shape : (w : ℕ) → good_shape w ≡ true → GoodShape w
-good-shape w e = record { below = ltb-true w (2 ^ shape_width) e }
-
-pub shape-good : {w : ℕ} → GoodShape w → good_shape w ≡ true
-shape-good {w} g = lt-ltb w (2 ^ shape_width) g.below

@@ -2,7 +2,7 @@
 use mathlib.Core.Path.{sym}
 use borrow.Author.Rules.{rules}
 use borrow.Author.Tests.{lt-ltb, le-ltb}
-use Rattle.theory.specs.Refusals.Laws.{or-refused}
+use Rattle.theory.proofs.Refusals.Laws.{or-refused}
 use Rattle.words.specs.Answers.{count_answer}
 use Rattle.words.proofs.count_within.Statement.{statement}
 use Rattle.words.proofs.count_within.Tie as tie

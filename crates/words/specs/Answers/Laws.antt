@@ -5,7 +5,7 @@ use Rattle.std.proofs.Common.{sym, ◌∙◌, ap}
 use Rattle.std.proofs.Math.Decide.{ℕ_discrete}
 use Rattle.theory.specs.Basics.{List, ℕ, ℤ, pos}
 use Rattle.theory.specs.Refusals.{Check, first_of}
-use Rattle.theory.specs.Refusals.Laws.{or-refused, answer-number}
+use Rattle.theory.proofs.Refusals.Laws.{or-refused, answer-number}
 use Rattle.words.specs.Answers.{Outcome, NumberedBy, number_answer, numbered, NumberAnswer}
 
 pub one-outcome : {A B : Type 0} (x : A × B) {r s : A} {p q : B} → Outcome x r p → Outcome x s q → (r ≡ s) × (p ≡ q)

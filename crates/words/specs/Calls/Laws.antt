@@ -9,13 +9,15 @@ use Rattle.std.proofs.Common.{sym, ◌∙◌, ap}
 use Rattle.theory.specs.Basics.{true, ℕ, pos}
 use Rattle.theory.specs.Partition.{Parts, degree}
 use Rattle.theory.specs.ShapeWord.{shape_of, good_shape, good_word, dropped}
-use Rattle.theory.specs.ShapeWord.InFront.{SameShape, one-good-word, good-kept, kept-good, none_dropped}
-use Rattle.theory.specs.ShapeWord.InFront.{undropped-good}
-use Rattle.theory.specs.ShapeWord.Conjugate.{one-conjugate}
+use Rattle.theory.specs.ShapeWord.InFront.{SameShape}
+use Rattle.theory.proofs.ShapeWord.InFront.{one-good-word, good-kept, kept-good, none_dropped, undropped-good}
+use Rattle.theory.proofs.ShapeWord.Conjugate.{one-conjugate}
 use Rattle.theory.specs.ClassWord.{class_of}
-use Rattle.theory.specs.ClassData.Periods.{period_from, period-computed, one-period}
+use Rattle.theory.specs.ClassData.Periods.{period_from}
+use Rattle.theory.proofs.ClassData.Periods.{period-computed, one-period}
 use Rattle.theory.specs.Refusals.{first_of, refused_or, shape_checks, good_shape_checks, class_checks}
-use Rattle.theory.specs.Refusals.Laws.{made_of, answer-given, shape-clear, good-checked, within-class, shape-alike}
+use Rattle.theory.proofs.Refusals.Laws.{made_of, answer-given, shape-clear, good-checked, within-class}
+use Rattle.theory.proofs.Refusals.Laws.{shape-alike}
 use Rattle.words.specs.Answers.{word_answer, good_answer, worded, numbered, NumberAnswer, WordAnswer}
 use Rattle.words.specs.Answers.{reading, GoodAnswer, ShapeReading}
 use Rattle.words.specs.Answers.Laws.{number-refusal, one_number}

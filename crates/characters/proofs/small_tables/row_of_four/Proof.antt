@@ -3,7 +3,7 @@ use mathlib.Core.Path.{refl, ◌∙◌}
 use native.Mathlib.Omega.{arith}
 use borrow.Author.Rules.{rules}
 use Rattle.theory.specs.Listing.{partition_counts}
-use Rattle.theory.specs.Listing.Laws.{count_kept}
+use Rattle.theory.proofs.Listing.Laws.{count_kept}
 use Rattle.characters.specs.Private.SmallTables.{small_tables}
 use Rattle.characters.proofs.SmallTables.{table-long}
 use Rattle.characters.proofs.small_tables.row_of_four.Statement.{statement}

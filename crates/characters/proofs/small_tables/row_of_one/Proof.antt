@@ -6,7 +6,7 @@ use mir.Facts.{to_z-of_z}
 use borrow.Author.Rules.{rules, sfits_of}
 use Rattle.theory.specs.Basics.{ℕ, List, [], ◌∷◌, ℤ, pos}
 use Rattle.theory.specs.Listing.{partition_counts}
-use Rattle.theory.specs.Listing.Laws.{count_kept}
+use Rattle.theory.proofs.Listing.Laws.{count_kept}
 use Rattle.characters.specs.Private.SmallTables.{small_tables}
 use Rattle.characters.proofs.SmallTables.{row_copied}
 use Rattle.characters.proofs.small_tables.row_of_one.Statement.{statement}

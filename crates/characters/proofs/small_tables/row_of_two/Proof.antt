@@ -5,7 +5,7 @@ use mir.Facts.{to_z-of_z}
 use borrow.Author.Rules.{rules, sfits_of}
 use Rattle.theory.specs.Basics.{[], ◌∷◌, pos}
 use Rattle.theory.specs.Listing.{partition_counts}
-use Rattle.theory.specs.Listing.Laws.{count_kept}
+use Rattle.theory.proofs.Listing.Laws.{count_kept}
 use Rattle.characters.proofs.SmallTables.{row_copied}
 use Rattle.characters.proofs.small_tables.row_of_two.Statement.{statement}
 use Rattle.characters.proofs.small_tables.row_of_two.Tie as tie

@@ -1,7 +1,7 @@
 -- `characters::small_tables::shape_rank` meets its contract: the digit was tested for all words of these degrees.
 use native.Mathlib.Omega.{arith}
 use borrow.Author.Rules.{rules}
-use Rattle.theory.specs.ShapeWord.Good.{good-shape}
+use Rattle.theory.proofs.ShapeWord.Good.{good-shape}
 use Rattle.characters.proofs.SmallWords.{shape-ranked}
 use Rattle.characters.proofs.small_tables.shape_rank.Statement.{statement}
 use Rattle.characters.proofs.small_tables.shape_rank.Tie as tie

@@ -7,9 +7,9 @@ use Prim.Native.Nat.{◌≤◌}
 use Rattle.theory.specs.Partition.{degree}
 use Rattle.theory.specs.Digits.{width}
 use Rattle.theory.specs.ClassWord.{class_of}
-use Rattle.theory.specs.ClassWord.Reading.{degree-told}
+use Rattle.theory.proofs.ClassWord.Reading.{degree-told}
 use Rattle.theory.specs.Listing.{partition_counts}
-use Rattle.theory.specs.Listing.Laws.{count_kept}
+use Rattle.theory.proofs.Listing.Laws.{count_kept}
 use Rattle.characters.proofs.SmallTables.{Found, found}
 use Rattle.characters.proofs.small_tables.table_row.Statement.{statement}
 use Rattle.characters.proofs.small_tables.table_row.Tie as tie

@@ -8,9 +8,9 @@ use mir.Syntax.{w64}
 use mir.Val.{SFits, to_z}
 use borrow.Author.Rules.{rules}
 use Rattle.theory.specs.Basics.{Bool, signed}
-use Rattle.theory.specs.ShapeWord.Good.{good-shape}
+use Rattle.theory.proofs.ShapeWord.Good.{good-shape}
 use Rattle.theory.specs.Hooks.Marks.Stretch.{stretch, raised}
-use Rattle.theory.specs.Bounds.Laws.{abs-add, abs-signed}
+use Rattle.theory.proofs.Bounds.Laws.{abs-add, abs-signed}
 use Rattle.pages.proofs.Signed.{carried, room}
 use Rattle.classcolumns.specs.Private.Columns.{entry}
 use Rattle.classcolumns.specs.Private.Places.{shape_places}

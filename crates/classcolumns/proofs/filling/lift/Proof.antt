@@ -5,7 +5,7 @@ use Prim.Native.Nat.{suc, ◌+◌, ◌-◌, ◌<◌, ◌≤◌}
 use native.Mathlib.Omega.{arith}
 use borrow.Author.Rules.{rules}
 use Rattle.theory.specs.Listing.{listing, start}
-use Rattle.theory.specs.Listing.Words.{start-next, start-rises}
+use Rattle.theory.proofs.Listing.Words.{start-next, start-rises}
 use Rattle.theory.specs.Basics.{◌∷◌, length, drop, get_or}
 use Rattle.theory.specs.Partition.{degree}
 use Rattle.theory.specs.Limits.{degree_limit}

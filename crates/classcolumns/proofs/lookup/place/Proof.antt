@@ -3,7 +3,7 @@ use mathlib.Core.Path.{◌≡◌, ◌∙◌, ap}
 use native.Mathlib.Omega.{arith}
 use borrow.Author.Rules.{rules}
 use Rattle.theory.specs.Basics.{List, ℕ, ◌+◌, ◌/◌, ◌%◌, ◌^◌, get_or, length}
-use Rattle.theory.specs.ShapeWord.Good.{good-shape}
+use Rattle.theory.proofs.ShapeWord.Good.{good-shape}
 use Rattle.classcolumns.specs.Private.Places.{place_of, eight_digits}
 use Rattle.classcolumns.proofs.PlaceLaws.{displacements-length, place-below}
 use Rattle.classcolumns.proofs.lookup.place.Statement.{statement}

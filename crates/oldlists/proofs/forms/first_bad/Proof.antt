@@ -7,7 +7,7 @@ use borrow.Author.Rules.{rules}
 use Rattle.theory.specs.Basics.{Bool, List, ℕ, length, get_or, drop, ◌+◌, ◌-◌}
 use Rattle.theory.specs.Limits.{degree_limit}
 use Rattle.theory.specs.Refusals.{first_of, refused_or}
-use Rattle.theory.specs.Refusals.Laws.{or-refused, or-given}
+use Rattle.theory.proofs.Refusals.Laws.{or-refused, or-given}
 use Rattle.oldlists.specs.Lists.{first_bad, list_answer}
 use Rattle.oldlists.specs.Private.Forms.{form_checks}
 use Rattle.words.proofs.PartLists.{next-left, none_left}

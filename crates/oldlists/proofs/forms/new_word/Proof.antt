@@ -7,14 +7,14 @@ use borrow.Author.Rules.{rules}
 use lib.Count.{count_leading_zeros}
 use Rattle.theory.specs.Basics.{true, [], ◌∷◌, ◌++◌, ℕ, suc, ◌+◌, ◌-◌, ◌*◌, ◌%◌, ◌^◌, length, replicate}
 use Rattle.theory.specs.Partition.{Parts, first, is_partition}
-use Rattle.theory.specs.Partition.Laws.{front}
+use Rattle.theory.proofs.Partition.Laws.{front}
 use Rattle.theory.specs.Digits.{word}
-use Rattle.theory.specs.Digits.Laws.{one_shifted, word_below, word_none}
+use Rattle.theory.proofs.Digits.Laws.{one_shifted, word_below, word_none}
 use Rattle.theory.specs.ClassWord.{class_of}
-use Rattle.theory.specs.ClassWord.Laws.{parts_none}
+use Rattle.theory.proofs.ClassWord.Laws.{parts_none}
 use Rattle.theory.specs.ShapeWord.{shape_digits, shape_word}
-use Rattle.theory.specs.ShapeWord.Reading.{behind, row-behind, none-behind}
-use Rattle.theory.specs.ShapeWord.Words.{small-has-room}
+use Rattle.theory.proofs.ShapeWord.Reading.{behind, row-behind, none-behind}
+use Rattle.theory.proofs.ShapeWord.Words.{small-has-room}
 use Rattle.theory.specs.OldForm.{new_word}
 use Rattle.words.proofs.ClassLoops.{parts_left, NextPart, next-part, no-parts-left}
 use Rattle.oldlists.proofs.forms.new_word.Statement.{statement}

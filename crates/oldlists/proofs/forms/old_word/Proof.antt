@@ -8,14 +8,14 @@ use lib.Count
 use lib.Pow.{pow_pos}
 use Rattle.theory.specs.Basics.{ℕ, ◌+◌, ◌-◌, ◌*◌, ◌%◌, ◌^◌}
 use Rattle.theory.specs.Digits.{digits}
-use Rattle.theory.specs.Digits.Laws.{word_below, word_none, one_shifted}
-use Rattle.theory.specs.Digits.Low.{trailing-more}
+use Rattle.theory.proofs.Digits.Laws.{word_below, word_none, one_shifted}
+use Rattle.theory.proofs.Digits.Low.{trailing-more}
 use Rattle.theory.specs.ClassWord.{class_digits, class_word}
 use Rattle.theory.specs.ShapeWord.{shape_of}
-use Rattle.theory.specs.ShapeWord.Reading.{ones-digits}
-use Rattle.theory.specs.ShapeWord.Words.{rows-have-room}
-use Rattle.theory.specs.ShapeWord.Counts.{rows-of-zero}
-use Rattle.theory.specs.ShapeWord.Complement.{rows_after, complement-room, rows_told}
+use Rattle.theory.proofs.ShapeWord.Reading.{ones-digits}
+use Rattle.theory.proofs.ShapeWord.Words.{rows-have-room}
+use Rattle.theory.proofs.ShapeWord.Counts.{rows-of-zero}
+use Rattle.theory.proofs.ShapeWord.Complement.{rows_after, complement-room, rows_told}
 use Rattle.theory.specs.OldForm.{old_word}
 use Rattle.words.proofs.ClassLoops.{parts_left, NextPart, next-part, no-parts-left}
 use Rattle.words.proofs.ClassWriting.{Writing, start_writing, PartWritten, part-written, all-written}

@@ -1,7 +1,7 @@
 -- `oldlists::forms::other_form` meets its contract: what passes the checks of its form is as the move from it asks.
 use native.Mathlib.Omega.{arith}
 use Rattle.theory.specs.Limits.{degree_limit}
-use Rattle.theory.specs.Refusals.Laws.{good-word-within, within-class}
+use Rattle.theory.proofs.Refusals.Laws.{good-word-within, within-class}
 use Rattle.words.proofs.Measures.{class-fits}
 use Rattle.oldlists.proofs.forms.other_form.Statement.{statement}
 use Rattle.oldlists.proofs.forms.other_form.Tie as tie

@@ -8,7 +8,7 @@ use Rattle.theory.specs.Basics.{ℕ, ◌^◌}
 use Rattle.theory.specs.ShapeWord.{shape_width}
 use Rattle.theory.specs.Limits.{degree_limit}
 use Rattle.theory.specs.Refusals.{shape_checks, class_checks}
-use Rattle.theory.specs.Refusals.Laws.{good-checked}
+use Rattle.theory.proofs.Refusals.Laws.{good-checked}
 use Rattle.words.specs.Answers.Laws.{numbered-refusal}
 use Rattle.words.specs.Calls.{class_degree, shape_degree}
 use Rattle.oldlists.proofs.forms.refusal.Statement.{statement}

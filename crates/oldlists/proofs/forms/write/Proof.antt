@@ -5,7 +5,7 @@ use mathlib.Core.Path.{ap}
 use borrow.Author.Rules.{rules}
 use lib.ListN.{length-map}
 use Rattle.theory.specs.Basics.{map, length, drop, ◌-◌}
-use Rattle.theory.specs.Basics.AtPlace.{each_at}
+use Rattle.theory.proofs.Basics.AtPlace.{each_at}
 use Rattle.theory.specs.Limits.{degree_limit}
 use Rattle.theory.specs.OldForm.Laws.{Passes}
 use Rattle.oldlists.specs.Private.Forms.{form_checks, other_form}

@@ -6,7 +6,7 @@ use native.Mathlib.Omega.{arith}
 use borrow.Author.Tests.{leb-true, le-leb}
 use borrow.Author.Rules.{rules}
 use Rattle.theory.specs.Basics.{ℕ, ◌≤?◌}
-use Rattle.theory.specs.Basics.Keep.{same_test}
+use Rattle.theory.proofs.Basics.Keep.{same_test}
 use Rattle.pages.proofs.gathering.affords.Statement.{statement}
 use Rattle.pages.proofs.gathering.affords.Tie as tie
 

@@ -12,7 +12,7 @@ use borrow.Author.Tests.{leb-true, leb-false}
 use borrow.Author.Rules.{rules}
 use Rattle.theory.specs.Basics.{false, length, get_or, drop, ℕ, pos, nat_abs}
 use Rattle.theory.specs.Bounds.{factorial}
-use Rattle.theory.specs.Bounds.Laws.{factorial-positive, factorial-rises}
+use Rattle.theory.proofs.Bounds.Laws.{factorial-positive, factorial-rises}
 use Rattle.theory.specs.Digits.{bit}
 use Rattle.theory.specs.Limits.{degree_limit}
 use Rattle.pages.specs.Page.{line_of}

@@ -5,8 +5,7 @@ use native.Mathlib.Omega.{arith}
 use lib.ListN.{length-map}
 use lib.Seq.{length-sets}
 use borrow.Author.Tests.{not-true, not-false, lt-ltb, le-ltb, ne_eqb}
-use Rattle.theory.specs.Basics.{length, drop}
-use Rattle.theory.specs.Basics.Laws.{Each}
+use Rattle.theory.specs.Basics.{length, drop, Each}
 use Rattle.theory.specs.Limits.{degree_limit, page_limit}
 use Rattle.theory.specs.Refusals.{first_of}
 use Rattle.text.specs.Text.{Text}

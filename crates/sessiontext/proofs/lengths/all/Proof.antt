@@ -6,8 +6,8 @@ use Prim.Native.Nat.{◌≤◌}
 use lib.ListN.{length-append}
 use lib.Seq.{take_all}
 use Rattle.theory.specs.Basics.{ℕ, ◌-◌, ◌*◌, length, get_or, take, joined}
-use Rattle.theory.specs.Basics.AtPlace.{each_at}
-use Rattle.theory.specs.Basics.Laws.{each-mapped, joined-next}
+use Rattle.theory.proofs.Basics.AtPlace.{each_at}
+use Rattle.theory.proofs.Basics.Laws.{each-mapped, joined-next}
 use Rattle.theory.specs.Limits.{degree_limit}
 use Rattle.text.specs.Text.{Text}
 use Rattle.pages.specs.Page.{line_of}

@@ -1,8 +1,8 @@
 -- `sessiontext::reading::counts` meets its contract: the number is written out and compared with the line.
 use mathlib.Core.Path.{◌∙◌, sym}
 use native.Mathlib.Omega.{arith}
-use Rattle.theory.specs.Basics.Keep.{same_test}
-use Rattle.theory.specs.Basics.Laws.{same_lists}
+use Rattle.theory.proofs.Basics.Keep.{same_test}
+use Rattle.theory.proofs.Basics.Laws.{same_lists}
 use Rattle.text.specs.Text.{ascii, decimal, field}
 use Rattle.sessiontext.specs.SessionText.Room.{number-length}
 use Rattle.sessiontext.specs.Reading.Forms.{self as same-is}

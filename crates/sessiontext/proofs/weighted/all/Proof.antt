@@ -8,8 +8,8 @@ use mir.Val.{to_z, of_z}
 use Prim.Native.Nat.{◌≤◌}
 use lib.Seq.{take_all}
 use Rattle.theory.specs.Basics.{◌-◌, length, get_or, take, joined, pos}
-use Rattle.theory.specs.Basics.AtPlace.{each_at}
-use Rattle.theory.specs.Basics.Laws.{joined-next}
+use Rattle.theory.proofs.Basics.AtPlace.{each_at}
+use Rattle.theory.proofs.Basics.Laws.{joined-next}
 use Rattle.theory.specs.Limits.{degree_limit}
 use Rattle.text.specs.Wrote.{most, Wrote}
 use Rattle.text.specs.Wrote.Laws.{wrote_none, wrote_then, wrote-length}

@@ -4,8 +4,8 @@ use native.Mathlib.Numerals.{add-one}
 use Prim.Native.Nat.{◌≤◌}
 use lib.Seq.{take_all}
 use Rattle.theory.specs.Basics.{ℕ, ◌-◌, length, take, joined}
-use Rattle.theory.specs.Basics.AtPlace.{each_at}
-use Rattle.theory.specs.Basics.Laws.{each-mapped, joined-next}
+use Rattle.theory.proofs.Basics.AtPlace.{each_at}
+use Rattle.theory.proofs.Basics.Laws.{each-mapped, joined-next}
 use Rattle.theory.specs.Limits.{degree_limit}
 use Rattle.text.specs.Text.{Text}
 use Rattle.text.specs.Wrote.{most, Wrote}

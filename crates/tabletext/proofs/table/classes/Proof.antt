@@ -6,7 +6,7 @@ use Prim.Native.Nat.{◌≤◌, ◌<◌}
 use lib.Seq.{take_all}
 use borrow.Author.Rules.{rules}
 use Rattle.theory.specs.Basics.{[], ◌++◌, suc, ◌-◌, length, get_or, take, joined}
-use Rattle.theory.specs.Basics.Laws.{joined-next}
+use Rattle.theory.proofs.Basics.Laws.{joined-next}
 use Rattle.theory.specs.Listing.{listing}
 use Rattle.text.specs.Wrote.{Wrote}
 use Rattle.text.specs.Wrote.Laws.{wrote_none, wrote_then, wrote-length}

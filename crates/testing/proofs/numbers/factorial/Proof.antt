@@ -1,7 +1,7 @@
 -- `testing::numbers::factorial` meets its contract. The product is i! for an i that rises to n, and 20! fits 64 bits.
 use Rattle.std.proofs.Common.{◌≡◌, ◌+◌, ◌-◌, ◌*◌, ◌≤◌, refl, mul_comm, add-one, arith, rules, le-ltb, lt-ltb}
 use Rattle.theory.specs.Bounds.{factorial}
-use Rattle.theory.specs.Bounds.Laws.{factorial-rises}
+use Rattle.theory.proofs.Bounds.Laws.{factorial-rises}
 use Rattle.testing.proofs.numbers.factorial.Statement.{statement}
 use Rattle.testing.proofs.numbers.factorial.Tie as tie
 

@@ -4,7 +4,7 @@ use mathlib.Core.Path.{refl}
 use borrow.Author.Rules.{rules}
 use Rattle.theory.specs.Basics.{ℕ, ◌+◌, ◌-◌, ◌*◌, ◌%◌, ◌^◌, length, get_or, drop}
 use Rattle.theory.specs.Partition.{Parts}
-use Rattle.theory.specs.Digits.Laws.{word_below}
+use Rattle.theory.proofs.Digits.Laws.{word_below}
 use Rattle.theory.specs.ClassWord.{class_digits, class_word}
 use Rattle.words.proofs.PartLists.{next-left, none_left}
 use Rattle.words.proofs.ClassWriting.{Writing, start_writing, PartWritten, part-written, all-written}

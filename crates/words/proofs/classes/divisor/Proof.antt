@@ -12,7 +12,7 @@ use Rattle.theory.specs.Basics.{ℕ, ◌-◌, ◌*◌}
 use Rattle.theory.specs.Partition.{Parts}
 use Rattle.theory.specs.ClassWord.{class_of}
 use Rattle.theory.specs.ClassData.{class_divisor}
-use Rattle.theory.specs.ClassData.Laws.{occurrence, occurrence-room, divisor_after, divisor-read}
+use Rattle.theory.proofs.ClassData.Laws.{occurrence, occurrence-room, divisor_after, divisor-read}
 use Rattle.theory.specs.Bounds.{factorial}
 use Rattle.words.proofs.ClassLoops.{parts_left, no-parts-left}
 use Rattle.words.proofs.ClassProducts.{Multiplying, Factor, factor}

@@ -3,10 +3,10 @@ use native.Mathlib.Omega.{arith}
 use mathlib.Core.Path.{sym, ap, ◌∙◌}
 use lib.Count.{trailing_le}
 use Rattle.theory.specs.Partition.{degree}
-use Rattle.theory.specs.Digits.Low.{trailing-more}
+use Rattle.theory.proofs.Digits.Low.{trailing-more}
 use Rattle.theory.specs.ClassWord.{class_of}
-use Rattle.theory.specs.ClassWord.Laws.{parts_none}
-use Rattle.theory.specs.ClassWord.Reading.{degree-told}
+use Rattle.theory.proofs.ClassWord.Laws.{parts_none}
+use Rattle.theory.proofs.ClassWord.Reading.{degree-told}
 use Rattle.words.proofs.classes.last_one.Statement.{statement}
 use Rattle.words.proofs.classes.last_one.Tie as tie
 

@@ -10,7 +10,7 @@ use lib.Count.{count_leading_zeros}
 use Rattle.theory.specs.Basics.{ℕ, ◌-◌, ◌*◌, ◌%◌}
 use Rattle.theory.specs.ClassWord.{class_of}
 use Rattle.theory.specs.ClassData.Periods.{multiplier, period_from}
-use Rattle.theory.specs.ClassData.Periods.{Multiplies, multiplies, one-multiplier, multiplier-within}
+use Rattle.theory.proofs.ClassData.Periods.{Multiplies, multiplies, one-multiplier, multiplier-within}
 use Rattle.theory.specs.Bounds.{factorial}
 use Rattle.words.proofs.ClassLoops.{parts_left, no-parts-left}
 use Rattle.words.proofs.ClassProducts.{Multiplying, Factor, factor}

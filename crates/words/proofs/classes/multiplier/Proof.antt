@@ -4,7 +4,7 @@ use native.Mathlib.Omega.{arith}
 use mathlib.Core.Path.{◌≡◌, sym, ap, ◌∙◌}
 use Prim.Native.Nat.{◌≤◌, ◌<◌}
 use Rattle.theory.specs.Basics.{ℕ, ◌-◌, ◌*◌, ◌%◌}
-use Rattle.theory.specs.ClassData.Periods.{one-multiplier}
+use Rattle.theory.proofs.ClassData.Periods.{one-multiplier}
 use Rattle.words.proofs.classes.multiplier.Statement.{statement}
 use Rattle.words.proofs.classes.multiplier.Tie as tie
 

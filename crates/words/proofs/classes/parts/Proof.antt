@@ -6,7 +6,7 @@ use Rattle.theory.specs.Partition.{Parts}
 use Rattle.theory.specs.ClassWord.{class_of}
 use Rattle.theory.specs.Limits.{degree_limit}
 use Rattle.theory.specs.Refusals.{class_checks}
-use Rattle.theory.specs.Refusals.Laws.{within-class}
+use Rattle.theory.proofs.Refusals.Laws.{within-class}
 use Rattle.words.specs.Calls.{class_parts_into}
 use Rattle.words.proofs.Measures.{parts-refused, parts-pass, parts-given}
 use Rattle.words.proofs.classes.parts.Statement.{statement}

@@ -6,7 +6,8 @@ use borrow.Author.Rules.{rules}
 use Rattle.theory.specs.Basics.{ℕ, ℤ, pos}
 use Rattle.theory.specs.Partition.{Parts, degree}
 use Rattle.theory.specs.ClassWord.{class_of}
-use Rattle.theory.specs.ClassData.Periods.{period_from, period-computed, period-room}
+use Rattle.theory.specs.ClassData.Periods.{period_from}
+use Rattle.theory.proofs.ClassData.Periods.{period-computed, period-room}
 use Rattle.theory.specs.Refusals.{class_checks}
 use Rattle.theory.specs.Limits.{degree_limit}
 use Rattle.words.specs.Calls.Laws.{period-told}

@@ -7,11 +7,11 @@ use borrow.Author.Rules.{rules}
 use borrow.Author.Tests.{lt-ltb, le-ltb}
 use Rattle.theory.specs.Basics.{true, false, [], ◌∷◌, ℕ, ◌+◌, ◌-◌, ◌^◌, length}
 use Rattle.theory.specs.Partition.{Parts, first, is_partition, degree}
-use Rattle.theory.specs.Partition.Laws.{fall, rise, first-degree}
+use Rattle.theory.proofs.Partition.Laws.{fall, rise, first-degree}
 use Rattle.theory.specs.Digits.{digits}
-use Rattle.theory.specs.Digits.Laws.{length_digits}
+use Rattle.theory.proofs.Digits.Laws.{length_digits}
 use Rattle.theory.specs.ClassWord.{class_of, good_class}
-use Rattle.theory.specs.ClassWord.Laws.{degree-parts, good-of-below, bad-above}
+use Rattle.theory.proofs.ClassWord.Laws.{degree-parts, good-of-below, bad-above}
 use Rattle.theory.specs.Refusals.{class_checks}
 use Rattle.theory.specs.Limits.{degree_limit}
 use Rattle.words.specs.Private.Reading.{measure, measured}

@@ -5,10 +5,10 @@ use borrow.Author.Rules.{rules}
 use borrow.Author.Tests.{eq-eqb, ne_eqb}
 use Rattle.theory.specs.Basics.{ℕ, ◌-◌, ◌%◌, pos, negsuc, length}
 use Rattle.theory.specs.Partition.{Parts, degree}
-use Rattle.theory.specs.Partition.Laws.{length-degree}
+use Rattle.theory.proofs.Partition.Laws.{length-degree}
 use Rattle.theory.specs.ClassWord.{class_of}
 use Rattle.theory.specs.ClassData.{class_sign}
-use Rattle.theory.specs.ClassData.Laws.{sign-by-degree}
+use Rattle.theory.proofs.ClassData.Laws.{sign-by-degree}
 use Rattle.theory.specs.Refusals.{class_checks}
 use Rattle.theory.specs.Limits.{degree_limit}
 use Rattle.words.specs.Calls.{sign_of_class}

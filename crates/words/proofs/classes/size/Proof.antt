@@ -7,7 +7,7 @@ use borrow.Author.Rules.{rules}
 use Rattle.theory.specs.Basics.{ℕ, pos, ◌/◌, get_or}
 use Rattle.theory.specs.ClassWord.{class_of}
 use Rattle.theory.specs.ClassData.{class_size}
-use Rattle.theory.specs.ClassData.Laws.{divisor-positive}
+use Rattle.theory.proofs.ClassData.Laws.{divisor-positive}
 use Rattle.theory.specs.Bounds.{factorial}
 use Rattle.theory.specs.Refusals.{class_checks}
 use Rattle.theory.specs.Limits.{degree_limit}

@@ -7,12 +7,12 @@ use borrow.Author.Rules.{rules}
 use lib.Pow.{pow_mono}
 use Rattle.theory.specs.Basics.{◌∷◌, ℕ, suc, length, drop, ◌+◌, ◌-◌, ◌*◌, ◌%◌, ◌^◌}
 use Rattle.theory.specs.Partition.{Parts, first}
-use Rattle.theory.specs.Partition.Laws.{front}
+use Rattle.theory.proofs.Partition.Laws.{front}
 use Rattle.theory.specs.Digits.{word}
-use Rattle.theory.specs.Digits.Laws.{one_shifted, word_below, word_none}
+use Rattle.theory.proofs.Digits.Laws.{one_shifted, word_below, word_none}
 use Rattle.theory.specs.ShapeWord.{shape_digits, shape_word}
-use Rattle.theory.specs.ShapeWord.Words.{HasRoom, small-has-room}
-use Rattle.theory.specs.ShapeWord.Reading.{shape-word-front}
+use Rattle.theory.proofs.ShapeWord.Words.{HasRoom, small-has-room}
+use Rattle.theory.proofs.ShapeWord.Reading.{shape-word-front}
 use Rattle.words.proofs.PartLists.{first-left, next-left, none_left}
 use Rattle.words.proofs.shapes.bits.Statement.{statement}
 use Rattle.words.proofs.shapes.bits.Tie as tie

@@ -4,7 +4,7 @@ use mathlib.Core.Path.{◌∙◌}
 use native.Mathlib.Omega.{arith}
 use borrow.Author.Rules.{rules}
 use Rattle.theory.specs.ShapeWord.{conjugate_word}
-use Rattle.theory.specs.ShapeWord.Conjugate.{one-conjugate}
+use Rattle.theory.proofs.ShapeWord.Conjugate.{one-conjugate}
 use Rattle.theory.specs.Refusals.{shape_checks}
 use Rattle.theory.specs.Limits.{degree_limit}
 use Rattle.words.specs.Calls.{conjugate_shape}

@@ -8,11 +8,11 @@ use borrow.Author.Rules.{rules}
 use lib.Count.{count_trailing_zeros, trailing_le}
 use Rattle.theory.specs.Basics.{ℕ, ◌+◌, ◌-◌, ◌*◌, ◌/◌, ◌%◌, ◌^◌}
 use Rattle.theory.specs.Digits.{digits, word}
-use Rattle.theory.specs.Digits.Laws.{word_below}
-use Rattle.theory.specs.Digits.Low.{trailing-more}
+use Rattle.theory.proofs.Digits.Laws.{word_below}
+use Rattle.theory.proofs.Digits.Low.{trailing-more}
 use Rattle.theory.specs.ShapeWord.{conjugate, conjugate_word}
-use Rattle.theory.specs.ShapeWord.Flips.{flips, conjugate-digits, flip-step, flip-end}
-use Rattle.theory.specs.ShapeWord.Counts.{conjugate-of-zero}
+use Rattle.theory.proofs.ShapeWord.Flips.{flips, conjugate-digits, flip-step, flip-end}
+use Rattle.theory.proofs.ShapeWord.Counts.{conjugate-of-zero}
 use Rattle.words.proofs.shapes.flipped.Statement.{statement}
 use Rattle.words.proofs.shapes.flipped.Tie as tie
 

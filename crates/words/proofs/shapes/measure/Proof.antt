@@ -4,7 +4,7 @@ use borrow.Author.Tests.{ltb-true}
 use Rattle.theory.specs.Basics.{ℕ, ◌^◌}
 use Rattle.theory.specs.Digits.{width}
 use Rattle.theory.specs.Limits.{degree_limit}
-use Rattle.theory.specs.Refusals.Laws.{shape-clear}
+use Rattle.theory.proofs.Refusals.Laws.{shape-clear}
 use Rattle.words.proofs.Measures.{measured-refused, measured-given}
 use Rattle.words.proofs.Readings.{ShapeRead, reading-number, shape-read}
 use Rattle.words.proofs.shapes.measure.Statement.{statement}

@@ -1,6 +1,7 @@
 -- `words::shapes::ones_in_front` meets its contract: digit 1 is shifted to bit 31, and leading zeros of the complement
 -- are leading ones.
-use Rattle.theory.specs.ShapeWord.Shifting.{ones_before, dropped-counted}
+use Rattle.theory.specs.ShapeWord.Shifting.{ones_before}
+use Rattle.theory.proofs.ShapeWord.Shifting.{dropped-counted}
 use Rattle.words.proofs.shapes.ones_in_front.Statement.{statement}
 use Rattle.words.proofs.shapes.ones_in_front.Tie as tie
 

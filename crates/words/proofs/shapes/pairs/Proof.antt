@@ -8,7 +8,7 @@ use Rattle.theory.specs.Basics.{◌+◌, ◌-◌, ◌*◌, ◌^◌}
 use Rattle.theory.specs.Partition.{degree}
 use Rattle.theory.specs.Digits.{digits}
 use Rattle.theory.specs.ShapeWord.{shape_of}
-use Rattle.theory.specs.ShapeWord.Counts.{pairs_after, degree-after}
+use Rattle.theory.proofs.ShapeWord.Counts.{pairs_after, degree-after}
 use Rattle.words.proofs.ClassLoops.{parts_left, NextPart, next-part, no-parts-left}
 use Rattle.words.proofs.shapes.pairs.Statement.{statement}
 use Rattle.words.proofs.shapes.pairs.Tie as tie

@@ -9,7 +9,7 @@ use Rattle.theory.specs.ShapeWord.{shape_of}
 use Rattle.theory.specs.Limits.{degree_limit}
 use Rattle.theory.specs.Refusals.{shape_checks}
 use Rattle.words.specs.Calls.{shape_parts_into}
-use Rattle.theory.specs.Refusals.Laws.{shape-clear}
+use Rattle.theory.proofs.Refusals.Laws.{shape-clear}
 use Rattle.words.proofs.Measures.{parts-refused, parts-pass, parts-given}
 use Rattle.words.proofs.shapes.parts.Statement.{statement}
 use Rattle.words.proofs.shapes.parts.Tie as tie

@@ -9,7 +9,7 @@ use Rattle.theory.specs.Basics.{ℕ, ◌*◌, ◌%◌, ◌^◌}
 use Rattle.theory.specs.Partition.{degree}
 use Rattle.theory.specs.Digits.{width}
 use Rattle.theory.specs.ShapeWord.{shape_of}
-use Rattle.theory.specs.ShapeWord.Shifting.{dropped-few, good-shifted}
+use Rattle.theory.proofs.ShapeWord.Shifting.{dropped-few, good-shifted}
 use Rattle.theory.specs.Limits.{degree_limit}
 use Rattle.words.proofs.Readings.{reading-refused, reading-given}
 use Rattle.words.proofs.shapes.read.Statement.{statement}

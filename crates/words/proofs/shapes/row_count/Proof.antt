@@ -4,10 +4,10 @@ use mathlib.Core.Path.{◌≡◌, sym, ap, ◌∙◌}
 use native.Mathlib.Nat.{pos_of_ne-zero}
 use lib.Count
 use Rattle.theory.specs.Basics.{ℕ, length, ◌+◌}
-use Rattle.theory.specs.Digits.Low.{trailing-more}
+use Rattle.theory.proofs.Digits.Low.{trailing-more}
 use Rattle.theory.specs.ShapeWord.{shape_of}
-use Rattle.theory.specs.ShapeWord.Reading.{ones-digits}
-use Rattle.theory.specs.ShapeWord.Counts.{rows-trailing, rows-of-zero}
+use Rattle.theory.proofs.ShapeWord.Reading.{ones-digits}
+use Rattle.theory.proofs.ShapeWord.Counts.{rows-trailing, rows-of-zero}
 use Rattle.words.proofs.shapes.row_count.Statement.{statement}
 use Rattle.words.proofs.shapes.row_count.Tie as tie
 

@@ -7,10 +7,10 @@ use borrow.Author.Rules.{rules}
 use lib.Count
 use Rattle.theory.specs.Basics.{ℕ, length, ◌-◌, ◌*◌, ◌%◌, ◌^◌}
 use Rattle.theory.specs.Digits.{digits, ones}
-use Rattle.theory.specs.Digits.Laws.{one_shifted}
+use Rattle.theory.proofs.Digits.Laws.{one_shifted}
 use Rattle.theory.specs.ShapeWord.{rows, shape_of}
-use Rattle.theory.specs.ShapeWord.Reading.{FirstDigit, first-digit, ones-digits}
-use Rattle.theory.specs.ShapeWord.Counts.{rows-of-zero}
+use Rattle.theory.proofs.ShapeWord.Reading.{FirstDigit, first-digit, ones-digits}
+use Rattle.theory.proofs.ShapeWord.Counts.{rows-of-zero}
 use Rattle.words.proofs.Columns.{Putting, put-start, put_next, put_all}
 use Rattle.words.proofs.shapes.write_rows.Statement.{statement}
 use Rattle.words.proofs.shapes.write_rows.Tie as tie

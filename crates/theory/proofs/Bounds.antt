@@ -1,0 +1,2 @@
+-- Laws of what specs/Bounds.antt defines.
+pub mod Laws

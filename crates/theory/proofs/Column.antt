@@ -1,0 +1,2 @@
+-- Laws of what specs/Column.antt defines.
+pub mod Laws

@@ -1,0 +1,2 @@
+-- Laws of what specs/OldForm.antt defines.
+pub mod Laws

@@ -1,0 +1,2 @@
+-- Laws of what specs/Partition.antt defines.
+pub mod Laws

@@ -1,0 +1,2 @@
+-- Laws of what specs/Refusals.antt defines.
+pub mod Laws

@@ -1,5 +1,8 @@
 // The calculator: characters of the symmetric group, and the watches of a session. Every call takes every input; a
 // refused number is 0.
+
+#![tactic(auto)]
+
 ghost use Rattle.std.specs.Prelude.{◌≡◌};
 ghost use Rattle.theory.specs.Limits.{degree_limit};
 ghost use Rattle.characters.specs.Calls.{character_of, shape_character_degree};
@@ -14,7 +17,7 @@ mod walking;
 pub mod watches;
 
 // What a watch answers.
-#[derive(Drop)]
+#[derive(Clone, Copy)]
 pub enum Watched {
     Whole(i64),
     Ratio(f64),

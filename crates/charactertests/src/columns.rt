@@ -4,7 +4,7 @@ ghost use Rattle.std.specs.Prelude.{◌≤◌, length};
 
 use testing::{Tally, print};
 
-#[derive(Drop)]
+#[derive(Clone, Copy)]
 pub struct Columns {
     pub counts: Tally,
     pub firsts: Tally,

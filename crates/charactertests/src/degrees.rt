@@ -5,7 +5,7 @@ ghost use Rattle.std.specs.Prelude.{◌≤◌};
 use super::lists;
 use testing::{Tally, print};
 
-#[derive(Drop)]
+#[derive(Clone, Copy)]
 pub struct Degrees {
     pub largest: Tally,
     pub all: Tally,

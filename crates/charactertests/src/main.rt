@@ -2,6 +2,9 @@
 // borders. What they answer is compared with formula (2b) of document 000 and the largest degrees of document 004,
 // which are no theorems here, with formulae (4) and (5), and with each other. A line to a check; none may be wrong.
 // Tests are joined by `&`, which has no branch, so that there is less to prove.
+
+#![tactic(auto)]
+
 mod borders;
 mod columns;
 mod degrees;

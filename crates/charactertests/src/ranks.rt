@@ -2,7 +2,7 @@
 use testing::{Tally, print};
 use words::{NumberAnswer, WordAnswer};
 
-#[derive(Drop)]
+#[derive(Clone, Copy)]
 pub struct Ranks {
     pub shapes: Tally,
     pub classes: Tally,

@@ -7,7 +7,7 @@ use testing::Tally;
 use testing::numbers::factorial;
 
 // What each check found.
-#[derive(Drop)]
+#[derive(Clone, Copy)]
 pub struct Found {
     pub columns: Columns,
     pub products: Tally,

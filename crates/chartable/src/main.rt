@@ -1,5 +1,7 @@
 // The table program (document 01, "Table program"): writes the table of the degree that standard input asks for.
 
+#![tactic(auto)]
+
 fn room() -> [u8; tabletext::ROOM] {
     [0; tabletext::ROOM]
 }

@@ -1,5 +1,8 @@
 // The column of a class (document 01, "Listing"): the characters of all shapes of its degree. Every call takes every
 // input, and a refused call writes nothing.
+
+#![tactic(auto)]
+
 ghost use Rattle.std.specs.Prelude.{◌≡◌};
 ghost use Rattle.theory.specs.Limits.{degree_limit};
 ghost use Rattle.words.specs.Answers.{Outcome};

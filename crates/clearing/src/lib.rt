@@ -1,5 +1,8 @@
 // What is lent to a session, cleared behind its lines (document 01, "Slip and page": zeros after the lines): a page of
 // words, and a column of coefficients. A call takes every input.
+
+#![tactic(auto)]
+
 ghost use Rattle.std.specs.Prelude.{◌≡◌, pos};
 ghost use Rattle.theory.specs.Basics.{length, take, replicate, ◌++◌, ◌-◌};
 

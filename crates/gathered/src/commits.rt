@@ -20,7 +20,7 @@ use sessions::Handed;
 
 // What comes of a line that is struck: why cycle or strip are refused, or how many of its hook lines wait, and the sum
 // of the weights of the others.
-#[derive(Drop)]
+#[derive(Clone, Copy)]
 struct Struck {
     refused: u8,
     count: usize,

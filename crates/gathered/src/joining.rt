@@ -13,7 +13,7 @@ use super::numbers;
 
 // What comes of hook lines that are joined to lines: whether the page is too full for them, or how many lines there
 // are.
-#[derive(Drop)]
+#[derive(Clone, Copy)]
 pub struct Joined {
     pub full: bool,
     pub lines: usize,

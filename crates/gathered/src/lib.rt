@@ -1,6 +1,9 @@
 // Sessions in the gathered mode (document 02, P7, "Gather like lines"): a page of words and a column of coefficients
 // beside it. A line by itself is a plain session of one line, so that the plain calls do the work. Every call takes
 // every input, and a refused call writes nothing.
+
+#![tactic(auto)]
+
 ghost use Rattle.std.specs.Prelude.{◌≡◌};
 ghost use Rattle.theory.specs.Refusals.{first_of};
 ghost use Rattle.theory.specs.Limits.{degree_limit};

@@ -1,6 +1,9 @@
 // The hooks of a shape word (document 01, "Hook of length h"), found by a mask. A hook has a zero, and a one as many
 // places below it as it is long; its stretch is the digits behind the zero, down to the one. Every call takes every
 // input.
+
+#![tactic(auto)]
+
 ghost use Rattle.std.specs.Prelude.{◌≡◌};
 ghost use Rattle.theory.specs.Basics.{pos, signed};
 ghost use Rattle.theory.specs.Hooks.Marks.{marks as marksOf};

@@ -1,5 +1,8 @@
 // A waiting line as a word (document 01, "Slip and page"): a signed shape word and a class word in one word of 64 bits.
 // Every call takes every input.
+
+#![tactic(auto)]
+
 ghost use Rattle.std.specs.Prelude.{◌≡◌, ◌%◌, ◌^◌};
 ghost use Rattle.theory.specs.Digits.{bit};
 ghost use Rattle.linewords.specs.Word.{line_of, word_of, plain};

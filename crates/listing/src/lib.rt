@@ -1,5 +1,8 @@
 // The listing of partitions (document 01, "Listing"): a degree and a rank give a partition, as either word, and either
 // word gives its rank. Every call takes every input; a refused word or number is 0.
+
+#![tactic(auto)]
+
 ghost use Rattle.std.specs.Prelude.{◌≡◌};
 ghost use Rattle.theory.specs.Partition.{degree as degree_of};
 ghost use Rattle.theory.specs.ShapeWord.{shape_of};
@@ -20,7 +23,7 @@ pub const WORD_COUNT: usize = 915;
 pub const MOST_PARTITIONS: usize = 231;
 
 // The words of one degree among those of all degrees.
-#[derive(Drop)]
+#[derive(Clone, Copy)]
 pub struct SectionAnswer {
     pub refused: u8,
     pub start: usize,

@@ -1,5 +1,8 @@
 // Lists of shapes moved between Comét's two methods (document 02, P5): the old form is his first, as classes have it,
 // and the new one his second. Lists keep good words. Every call takes every input; a refused call writes nothing.
+
+#![tactic(auto)]
+
 ghost use Rattle.theory.specs.Limits.{degree_limit};
 ghost use Rattle.words.specs.Answers.{Outcome};
 ghost use Rattle.oldlists.specs.Calls.{shapes_from_old, shapes_to_old};
@@ -7,7 +10,7 @@ ghost use Rattle.oldlists.specs.Calls.{shapes_from_old, shapes_to_old};
 mod forms;
 
 // What refuses a list of words, 0 for nothing, and the index of the first bad word, from 0; 0 where no word is bad.
-#[derive(Drop)]
+#[derive(Clone, Copy)]
 pub struct ListAnswer {
     pub refused: u8,
     pub index: usize,

@@ -1,6 +1,8 @@
 // Slips, pages and waiting lines (document 01, "Slip and page", "Sound slip and page"): how a page's word is read and
 // written, and whether slip and page are sound, in either mode. Every call takes every input.
 
+#![tactic(auto)]
+
 mod degrees;
 mod differences;
 pub mod gathering;
@@ -17,7 +19,7 @@ pub const GATHERED: u32 = 1;
 
 // A session's slip: the shape and the class asked for, the settled sum, the number of lines that wait, the steps, and
 // the mode.
-#[derive(Drop)]
+#[derive(Clone, Copy)]
 pub struct Slip {
     pub shape: u32,
     pub class: u32,
@@ -38,7 +40,7 @@ pub const BLANK: Slip = Slip {
 };
 
 // What is left of n! and S(n), n being the degree that a slip asks for; all zeros where one does not suffice.
-#[derive(Drop)]
+#[derive(Clone, Copy)]
 pub struct Budget {
     pub enough: bool,
     pub degree: u32,

@@ -1,11 +1,14 @@
 // A shape word and a class word taken together (document 01, "Order": 1, 3, 2, 4, 5). The call takes every input.
+
+#![tactic(auto)]
+
 ghost use Rattle.std.specs.Prelude.{◌≡◌};
 ghost use Rattle.theory.specs.Limits.{degree_limit};
 ghost use Rattle.pairs.specs.Pairs.{common_degree, degree_of_both};
 
 // What a shape word and a class word have in common: why they are refused, or the good word of the shape and the degree
 // of both.
-#[derive(Drop)]
+#[derive(Clone, Copy)]
 pub struct CommonDegree {
     pub refused: u8,
     pub shape: u32,

@@ -1,5 +1,8 @@
 // Sessions (document 01, "Slip and page"; document 02, P3): opened, previewed and committed over a lent page.
 // Everything is judged before the first word is written, and a refused call writes nothing.
+
+#![tactic(auto)]
+
 ghost use Rattle.std.specs.Prelude.{◌≡◌, ◌+◌, ◌<◌, ◌^◌, pos, ◌+ℤ◌, nat_abs};
 ghost use Rattle.theory.specs.Basics.{not, [], ◌∷◌, length};
 ghost use Rattle.theory.specs.Refusals.{first_of};
@@ -19,7 +22,7 @@ mod lines;
 mod page;
 
 // A slip with the refusal number beside it.
-#[derive(Drop)]
+#[derive(Clone, Copy)]
 pub struct Handed {
     pub refused: u8,
     pub slip: Slip,
@@ -27,7 +30,7 @@ pub struct Handed {
 
 // What is left of the class of a line that is named: why line and cycle are refused, or the class word without the
 // cycle.
-#[derive(Drop)]
+#[derive(Clone, Copy)]
 struct ClassLeft {
     refused: u8,
     class: u32,
@@ -35,7 +38,7 @@ struct ClassLeft {
 
 // What comes of a line that is struck: why line and cycle are refused, or how many of its hook lines wait, and the sum
 // of the signs of the others.
-#[derive(Drop)]
+#[derive(Clone, Copy)]
 struct Struck {
     refused: u8,
     count: usize,

@@ -6,14 +6,14 @@ ghost use Rattle.pages.specs.Page.{line_of};
 ghost use Rattle.sessions.specs.Private.Striking.{class_without, multiplied, Strikes, stripped};
 
 // What a cycle leaves of a class: whether the class has it, and the class word without it.
-#[derive(Drop)]
+#[derive(Clone, Copy)]
 pub struct WithoutCycle {
     pub found: bool,
     pub class: u32,
 }
 
 // The hook lines of a line: how many were put on a strip, and the sum of the signs of those that leave the empty shape.
-#[derive(Drop)]
+#[derive(Clone, Copy)]
 pub struct HookLines {
     pub count: usize,
     pub settled: i64,

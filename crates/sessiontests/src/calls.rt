@@ -7,7 +7,7 @@ use sessions::Handed;
 use testing::numbers;
 
 // A call's outcome: the run's slip after it, the refusal number, and what was wrong with it (0: nothing).
-#[derive(Drop)]
+#[derive(Clone, Copy)]
 pub struct Found {
     pub slip: Slip,
     pub refused: u8,

@@ -58,7 +58,7 @@ pub fn blank(slip: Slip) -> bool {
 }
 
 // What watches 3, 4 and 5 show.
-#[derive(Drop)]
+#[derive(Clone, Copy)]
 pub struct Shown {
     pub settled: i64,
     pub waiting: i64,

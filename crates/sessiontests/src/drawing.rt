@@ -76,7 +76,7 @@ pub fn in_front(shape: u32, word: u64) -> u32 {
 }
 
 // A slip, one of its lines, and a cycle to be struck from it.
-#[derive(Drop)]
+#[derive(Clone, Copy)]
 pub struct Strike {
     pub slip: Slip,
     pub line: usize,

@@ -3,7 +3,7 @@ use super::drawing::{PAGE, Strike};
 use pages::Slip;
 
 // What must come of a strike: why it is refused (0: it is not), how many new lines there are, and their words.
-#[derive(Drop)]
+#[derive(Clone, Copy)]
 pub struct New {
     pub refused: u8,
     pub count: usize,

@@ -5,6 +5,9 @@
 // it does not begin with them, 10 where the page has no room for the lines and 17 where the bytes have none for the
 // text, that a load gives back what was saved, and that a refused call changes nothing. Tests are joined by `&`, which
 // has no branch, so that there is less to prove.
+
+#![tactic(auto)]
+
 mod board;
 mod calls;
 mod changes;

@@ -26,7 +26,7 @@ pub const LOADS: usize = 4;
 pub const ELSEWHERE: usize = 5;
 
 // Where a run stands: its slip, and what it put away.
-#[derive(Drop)]
+#[derive(Clone, Copy)]
 pub struct Stand {
     pub slip: Slip,
     pub saved: Saved,

@@ -7,7 +7,7 @@ use super::texts::{ROOM, just_fits};
 use pages::Slip;
 
 // What a run put away last: slip and page, what the watches showed, and how long the text is.
-#[derive(Drop)]
+#[derive(Clone, Copy)]
 pub struct Saved {
     pub slip: Slip,
     pub page: [u64; PAGE],
@@ -16,7 +16,7 @@ pub struct Saved {
 }
 
 // A save's outcome: what is put away after it, the refusal number, and what was wrong (0: nothing).
-#[derive(Drop)]
+#[derive(Clone, Copy)]
 pub struct Kept {
     pub saved: Saved,
     pub refused: u8,

@@ -52,7 +52,7 @@ pub fn just_fits(slip: Slip, page: &[u64], text: &[u8], length: usize) -> bool {
 }
 
 // What became of a text that was loaded, and whether that is as promised.
-#[derive(Drop)]
+#[derive(Clone, Copy)]
 pub struct Judged {
     pub refused: u8,
     pub line: usize,

@@ -11,7 +11,7 @@ ghost use Rattle.sessiontext.specs.Private.Weighted.{ToldWeighted, ReadWeighted,
 
 use super::{numbers, waiting, weighted};
 
-#[derive(Drop)]
+#[derive(Clone, Copy)]
 pub struct WeightedRead {
     pub formed: bool,
     pub word: u64,

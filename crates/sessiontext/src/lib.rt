@@ -1,5 +1,8 @@
 // A session put away as text, and taken up again (document 02, P1). Every call takes every input; a refused call writes
 // nothing.
+
+#![tactic(auto)]
+
 ghost use Rattle.std.specs.Prelude.{◌≡◌, ◌≤◌};
 ghost use Rattle.theory.specs.Basics.{length, map, ◌≤?◌};
 ghost use Rattle.theory.specs.Limits.{degree_limit, page_limit};
@@ -27,7 +30,7 @@ mod writing;
 const HEAD_ROOM: usize = 256;
 
 // A slip with the refusal number beside it and, where that is 16, the text's line that is at fault, from 1.
-#[derive(Drop)]
+#[derive(Clone, Copy)]
 pub struct Loaded {
     pub refused: u8,
     pub line: usize,

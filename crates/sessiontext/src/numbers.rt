@@ -5,13 +5,13 @@ ghost use Rattle.sessiontext.specs.Private.Read.{ReadSettled};
 
 use text::fields;
 
-#[derive(Drop)]
+#[derive(Clone, Copy)]
 pub struct NumberRead {
     pub formed: bool,
     pub number: u64,
 }
 
-#[derive(Drop)]
+#[derive(Clone, Copy)]
 pub struct IntegerRead {
     pub formed: bool,
     pub number: i64,

@@ -9,21 +9,21 @@ ghost use Rattle.sessiontext.specs.Private.Read.{ReadParts, no_parts, ReadShape,
 use text::fields;
 
 // A part list in a text: whether it is a partition within the limit, and then how many parts it has, and its word.
-#[derive(Drop)]
+#[derive(Clone, Copy)]
 pub struct PartsRead {
     pub formed: bool,
     pub count: usize,
     pub word: u32,
 }
 
-#[derive(Drop)]
+#[derive(Clone, Copy)]
 pub struct ShapeRead {
     pub formed: bool,
     pub word: u32,
     pub degree: u64,
 }
 
-#[derive(Drop)]
+#[derive(Clone, Copy)]
 pub struct ClassRead {
     pub formed: bool,
     pub word: u32,

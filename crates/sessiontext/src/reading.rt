@@ -11,7 +11,7 @@ use super::{numbers, partitions};
 use pages::{PLAIN, Slip};
 use text::fields;
 
-#[derive(Drop)]
+#[derive(Clone, Copy)]
 pub struct HeadRead {
     pub fault: usize,
     pub slip: Slip,

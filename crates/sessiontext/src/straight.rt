@@ -12,14 +12,14 @@ ghost use Rattle.sessiontext.specs.Private.Stands.{Stands, PartStands, ListStand
 const FRONT: usize = 7;
 
 // A part, and where its text ends; no part is 0.
-#[derive(Drop)]
+#[derive(Clone, Copy)]
 pub struct PartAt {
     pub part: u8,
     pub end: usize,
 }
 
 // Whether a list stands there, and then how many parts it has and where the byte behind it ends.
-#[derive(Drop)]
+#[derive(Clone, Copy)]
 pub struct ListAt {
     pub formed: bool,
     pub count: usize,
@@ -27,7 +27,7 @@ pub struct ListAt {
 }
 
 // Whether a partition within the limit stands there, and then its word and where the byte behind it ends.
-#[derive(Drop)]
+#[derive(Clone, Copy)]
 pub struct WordAt {
     pub formed: bool,
     pub word: u32,
@@ -35,14 +35,14 @@ pub struct WordAt {
 }
 
 // Whether a line begins as a waiting one, and then whether its sign is minus.
-#[derive(Drop)]
+#[derive(Clone, Copy)]
 pub struct FrontAt {
     pub formed: bool,
     pub minus: bool,
 }
 
 // Whether a waiting line was read, and then its word; where it ends.
-#[derive(Drop)]
+#[derive(Clone, Copy)]
 pub struct LineAt {
     pub formed: bool,
     pub word: u64,

@@ -15,7 +15,7 @@ use super::{straight, writing};
 use pages::{Budget, soundness};
 
 // What is read off the text of a waiting line: whether it is formed, and then the line's word.
-#[derive(Drop)]
+#[derive(Clone, Copy)]
 pub struct LineRead {
     pub formed: bool,
     pub word: u64,
@@ -23,7 +23,7 @@ pub struct LineRead {
 
 // What a reading of waiting lines finds: the first line of the text that is at fault, or 0, and then whether the budgets
 // suffice.
-#[derive(Drop)]
+#[derive(Clone, Copy)]
 pub struct LinesRead {
     pub fault: usize,
     pub enough: bool,

@@ -1,4 +1,7 @@
 // The text that the table program writes for any input (document 01, "Table program"), as bytes.
+
+#![tactic(auto)]
+
 ghost use Rattle.theory.specs.Limits.{degree_limit};
 ghost use Rattle.words.specs.Answers.{Outcome};
 ghost use Rattle.tabletext.specs.Table.{chartable_into};

@@ -1,12 +1,15 @@
 // What the test programs share: counts of cases with the line that says them, and whole numbers with room. Every call
 // takes every input.
+
+#![tactic(auto)]
+
 ghost use Rattle.std.specs.Prelude.{◌≡◌};
 ghost use Rattle.testing.specs.Tallies.{none, counted};
 
 pub mod numbers;
 
 // How many cases of a check were run, and how many of them were wrong.
-#[derive(Drop)]
+#[derive(Clone, Copy)]
 pub struct Tally {
     pub cases: u64,
     pub wrong: u64,

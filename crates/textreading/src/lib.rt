@@ -1,4 +1,7 @@
 // What is read off a text, whatever its form: whoever asks compares the text with that of what was read.
+
+#![tactic(auto)]
+
 ghost use Rattle.std.specs.Prelude.{◌≡◌, map, [], ◌∷◌, ◌+◌, min};
 ghost use Rattle.theory.specs.Basics.{length, drop};
 ghost use Rattle.text.specs.Wrote.{most, Wrote};

@@ -1,6 +1,8 @@
 // Partitions as words of 32 bits: part lists and words turned into each other by Comét's two methods, and what a word
 // tells. Every call takes every input; a refused word or number is 0, and a refused call writes nothing.
 
+#![tactic(auto)]
+
 ghost use Rattle.std.specs.Prelude.{◌≡◌, ◌<◌, ◌^◌};
 ghost use Rattle.theory.specs.Basics.{pos};
 ghost use Rattle.words.specs.Answers.{number_answer};
@@ -10,20 +12,20 @@ pub mod classes;
 mod lists;
 pub mod shapes;
 
-#[derive(Drop)]
+#[derive(Clone, Copy)]
 pub struct WordAnswer {
     pub refused: u8,
     pub word: u32,
 }
 
-#[derive(Drop)]
+#[derive(Clone, Copy)]
 pub struct NumberAnswer {
     pub refused: u8,
     pub number: i64,
 }
 
 // The good word of a shape word, and how many ones in front were dropped.
-#[derive(Drop)]
+#[derive(Clone, Copy)]
 pub struct GoodAnswer {
     pub refused: u8,
     pub word: u32,
@@ -32,7 +34,7 @@ pub struct GoodAnswer {
 
 // What the reader of a shape word finds: why it is refused, or its good word, how many ones in front were dropped, and
 // its degree.
-#[derive(Drop)]
+#[derive(Clone, Copy)]
 pub struct ShapeReading {
     pub refused: u8,
     pub word: u32,
@@ -41,14 +43,14 @@ pub struct ShapeReading {
 }
 
 // How many parts were written to the front of a lent column.
-#[derive(Drop)]
+#[derive(Clone, Copy)]
 pub struct CountAnswer {
     pub refused: u8,
     pub count: usize,
 }
 
 // What is told of the parts of a word: why it is refused, or its degree and how many parts it has.
-#[derive(Drop)]
+#[derive(Clone, Copy)]
 struct Measure {
     refused: u8,
     degree: u32,

@@ -3,7 +3,7 @@ ghost use Rattle.std.specs.Prelude.{◌≤◌};
 
 use words::{CountAnswer, NumberAnswer, WordAnswer};
 
-#[derive(Drop)]
+#[derive(Clone, Copy)]
 pub enum Kind {
     Shape,
     Class,

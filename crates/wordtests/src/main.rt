@@ -1,6 +1,9 @@
 // Runs the calls of `words` and `oldlists`, and the listing, on all 915 partitions of degree 0 to 16 and at every
 // border, and compares what they answer with what is counted here from the parts, without digits. A line to a check;
 // none may be wrong. Tests are joined by `&`, which has no branch, so that there is less to prove.
+
+#![tactic(auto)]
+
 mod borders;
 mod class_data;
 mod columns;

@@ -8,7 +8,7 @@ use words::WordAnswer;
 
 // What each check found, and of the degree that is being walked the number of partitions met, the class word of the
 // last one and the sum of the sizes of the classes.
-#[derive(Drop)]
+#[derive(Clone, Copy)]
 pub struct Found {
     pub shapes: Tally,
     pub classes: Tally,

@@ -1,6 +1,8 @@
 // The calculator's calls for C and Rust: plain numbers in, plain numbers or a struct by value out. window/zembrusha.h
 // declares them; tests/window holds the two against each other.
 
+#![tactic(auto)]
+
 pub mod gatherings;
 mod handing;
 pub mod plain;
@@ -10,7 +12,7 @@ pub mod texts;
 
 // A word or a count, 0 when refused, with the refusal number beside it.
 #[repr(C)]
-#[derive(Drop)]
+#[derive(Clone, Copy)]
 pub struct Number {
     pub refused: u32,
     pub number: u64,
@@ -18,7 +20,7 @@ pub struct Number {
 
 // The good word of a shape word, and how many ones in front were dropped; both are 0 when refused.
 #[repr(C)]
-#[derive(Drop)]
+#[derive(Clone, Copy)]
 pub struct Good {
     pub refused: u32,
     pub word: u32,
@@ -27,7 +29,7 @@ pub struct Good {
 
 // What refuses a list of words, 0 for nothing, and the index of the first bad word, from 0; 0 where no word is bad.
 #[repr(C)]
-#[derive(Drop)]
+#[derive(Clone, Copy)]
 pub struct Listed {
     pub refused: u32,
     pub index: u64,
@@ -35,7 +37,7 @@ pub struct Listed {
 
 // A session's slip.
 #[repr(C)]
-#[derive(Drop)]
+#[derive(Clone, Copy)]
 pub struct Slip {
     pub shape: u32,
     pub class_word: u32,
@@ -47,7 +49,7 @@ pub struct Slip {
 
 // A slip with the refusal number beside it.
 #[repr(C)]
-#[derive(Drop)]
+#[derive(Clone, Copy)]
 pub struct Handed {
     pub refused: u32,
     pub slip: Slip,
@@ -55,7 +57,7 @@ pub struct Handed {
 
 // A slip with the refusal number beside it and, where that is 16, the text's line that is at fault, from 1.
 #[repr(C)]
-#[derive(Drop)]
+#[derive(Clone, Copy)]
 pub struct Loaded {
     pub refused: u32,
     pub line: u64,

@@ -21,26 +21,26 @@ use Rattle.words.proofs.classes.period.Tie as tie
 abbrev told : ℕ → ℤ
 told w = pos (period_from 1 (class_of w))
 
-read-requires : tie.Need-read-requires
+read-requires : tie.Need-read-measure-requires
 read-requires c κs = search rules
 
 refused-requires : tie.Need-refused-requires
 refused-requires c κs = search rules
 
-returns : tie.Need-returns
+returns : tie.Need-returns-then-measure-ne0
 returns c =
-    let a = c.before.before.before in
-    let w : ℕ = a.before.args.word in
-    let handed = number-handed _ _ _ a.read.ensures (told w) c.before.if1.true c.refused.ensures in
+    let a = c in
+    let w : ℕ = a.args.word in
+    let handed = number-handed _ _ _ a.read-measure.ensures (told w) c.if-measure-ne0.true c.refused.ensures in
     rw handed (period-told degree_limit w)
 
-abbrev word : tie.Else1 → ℕ
-word c = c.before.before.before.args.word
+abbrev word : tie.Else-measure-ne0 → ℕ
+word c = c.args.word
 
-passes : (c : tie.Else1) → ClassMeasures degree_limit (word c) c.before.before.read.result
-passes c = class-measures _ _ _ c.before.before.read.ensures c.if1.false
+passes : (c : tie.Else-measure-ne0) → ClassMeasures degree_limit (word c) c.read-measure.result
+passes c = class-measures _ _ _ c.read-measure.ensures c.if-measure-ne0.false
 
-least-multiple-requires : tie.Need-least-multiple-requires
+least-multiple-requires : tie.Need-least_multiple-requires
 least-multiple-requires c κs =
     class-fits (omega arith) (passes c).within
 
@@ -49,16 +49,16 @@ given-requires c κs =
     let good = (passes c.before).within in
     let ps : Parts = class_of (word c.before) in
     let room = period-room good.good.partition (period-computed ps good.good.partition) in
-    omega (arith, room, c.least-multiple.ensures, factorial-fits (degree ps) (omega arith))
+    omega (arith, room, c.least_multiple.ensures, factorial-fits (degree ps) (omega arith))
 
-returns-2 : tie.Need-returns-2
+returns-2 : tie.Need-returns
 returns-2 c =
-    let e = c.before.before in
-    let given = number-given (class_checks degree_limit (word e)) _ _ (passes e).found.none in
-    rw (c.given.ensures ∙ given (ap pos c.before.least-multiple.ensures)) (period-told degree_limit (word e))
+    let e = c in
+    let given = number-given (class_checks degree_limit (word e.before.before)) _ _ (passes e.before.before).found.none in
+    rw (c.given.ensures ∙ given (ap pos c.least_multiple.ensures)) (period-told degree_limit (word e.before.before))
 
-pub period-spec : {M : Type 1} → statement M
-period-spec =
+pub period_spec : {M : Type 1} → statement M
+period_spec =
     tie.close
     (tie.spec
     read-requires

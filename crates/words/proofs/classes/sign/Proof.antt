@@ -17,56 +17,56 @@ use Rattle.words.proofs.Measures.{ClassMeasures, class-measures, number-handed}
 use Rattle.words.proofs.classes.sign.Statement.{statement}
 use Rattle.words.proofs.classes.sign.Tie as tie
 
-read-requires : tie.Need-read-requires
+read-requires : tie.Need-read-measure-requires
 read-requires c κs = search rules
 
 refused-requires : tie.Need-refused-requires
 refused-requires c κs = search rules
 
-returns : tie.Need-returns
+returns : tie.Need-returns-then-measure-ne0
 unfolding sign_of_class
 returns c =
-    let a = c.before.before.before in
-    number-handed _ _ _ a.read.ensures _ c.before.if1.true c.refused.ensures
+    let a = c in
+    number-handed _ _ _ a.read-measure.ensures _ c.if-measure-ne0.true c.refused.ensures
 
-abbrev word : tie.Else1 → ℕ
-word c = c.before.before.before.args.word
+abbrev word : tie.Else-measure-ne0 → ℕ
+word c = c.args.word
 
-abbrev class : tie.Else1 → Parts
+abbrev class : tie.Else-measure-ne0 → Parts
 class c = class_of (word c)
 
-passes : (c : tie.Else1) → ClassMeasures degree_limit (word c) c.before.before.read.result
-passes c = class-measures _ _ _ c.before.before.read.ensures c.if1.false
+passes : (c : tie.Else-measure-ne0) → ClassMeasures degree_limit (word c) c.read-measure.result
+passes c = class-measures _ _ _ c.read-measure.ensures c.if-measure-ne0.false
 
-sub-if2 : tie.Need-overflow-sub-if2
+sub-if2 : tie.Need-overflow_sub-measure
 sub-if2 c =
     let p = passes c.before in
     omega (arith, length-degree (class c.before) p.within.good.partition)
 
-returns-2 : tie.Need-returns-2
+returns-2 : tie.Need-returns-then-measure-eq1
 unfolding sign_of_class
 returns-2 c =
-    let e = c.before.before in
-    let w : ℕ = word e in
-    let p = passes e in
-    let odd = eq-eqb ((degree (class e) - length (class e)) % 2) 1 (omega arith) in
-    let minus : class_sign (class e) ≡ negsuc 0 = sign-by-degree (class e) p.within.good.partition ∙ rw odd in
+    let e = c in
+    let w : ℕ = word e.before.before in
+    let p = passes e.before.before in
+    let odd = eq-eqb ((degree (class e.before.before) - length (class e.before.before)) % 2) 1 (omega arith) in
+    let minus : class_sign (class e.before.before) ≡ negsuc 0 = sign-by-degree (class e.before.before) p.within.good.partition ∙ rw odd in
     number-given (class_checks degree_limit w) _ _ p.found.none (sym minus)
 
 given-requires : tie.Need-given-requires
 given-requires c κs = search rules
 
-returns-3 : tie.Need-returns-3
+returns-3 : tie.Need-returns
 unfolding sign_of_class
 returns-3 c =
-    let e = c.before.before.before in
-    let w : ℕ = word e in
-    let p = passes e in
-    let even = ne_eqb ((degree (class e) - length (class e)) % 2) 1 (λ z. c.before.if2.false (omega arith)) in
-    let plus : class_sign (class e) ≡ pos 1 = sign-by-degree (class e) p.within.good.partition ∙ rw even in
+    let e = c in
+    let w : ℕ = word e.before.before.before in
+    let p = passes e.before.before.before in
+    let even = ne_eqb ((degree (class e.before.before.before) - length (class e.before.before.before)) % 2) 1 (λ z. c.if-measure-eq1.false (omega arith)) in
+    let plus : class_sign (class e.before.before.before) ≡ pos 1 = sign-by-degree (class e.before.before.before) p.within.good.partition ∙ rw even in
     c.given.ensures ∙ number-given (class_checks degree_limit w) _ _ p.found.none (sym plus)
 
-pub sign-spec : {M : Type 1} → statement M
-sign-spec =
+pub sign_spec : {M : Type 1} → statement M
+sign_spec =
     tie.close
     (tie.spec read-requires refused-requires returns sub-if2 returns-2 given-requires returns-3)

@@ -10,55 +10,55 @@ use Rattle.words.proofs.PartLists.{degree-left, none_left}
 use Rattle.words.proofs.lists.capped_degree.Statement.{statement}
 use Rattle.words.proofs.lists.capped_degree.Tie as tie
 
-abbrev invariant-loop : tie.invariant-loop
-invariant-loop parts sum₀ i₀ sum i = (i ≤ length parts) × (degree parts ≡ sum + degree (drop i parts)) × (sum ≤ degree_limit)
+abbrev invariant-loop-i : tie.invariant-loop-i
+invariant-loop-i parts sum₀ i₀ sum i = (i ≤ length parts) × (degree parts ≡ sum + degree (drop i parts)) × (sum ≤ degree_limit)
 
-abbrev decreases-loop : tie.decreases-loop
-decreases-loop parts sum₀ i₀ sum i = length parts - i
+abbrev decreases-loop-i : tie.decreases-loop-i
+decreases-loop-i parts sum₀ i₀ sum i = length parts - i
 
-step : (c : tie.In-loop invariant-loop decreases-loop) → degree (drop c.before.loop.i c.before.before.args.parts.now)
-    ≡ get_or c.before.before.args.parts.now c.before.loop.i 0
-    + degree (drop (c.before.loop.i + 1) c.before.before.args.parts.now)
-step c = degree-left _ _ c.loop-test.true
+step : (c : tie.In-loop-i invariant-loop-i decreases-loop-i) → degree (drop c.loop-i.i c.args.parts.now)
+    ≡ get_or c.args.parts.now c.loop-i.i 0
+    + degree (drop (c.loop-i.i + 1) c.args.parts.now)
+step c = degree-left _ _ c.loop-i-test.true
 
-loop-holds : tie.Need-loop-init invariant-loop decreases-loop
+loop-holds : tie.Need-loop-i-init invariant-loop-i decreases-loop-i
 loop-holds c = search rules
 
-shared-slice-read-degree : tie.Need-shared-slice-read-degree invariant-loop decreases-loop
+shared-slice-read-degree : tie.Need-bounds-parts-i invariant-loop-i decreases-loop-i
 shared-slice-read-degree c = search rules
 
-cast-degree : tie.Need-overflow-cast-degree invariant-loop decreases-loop
-cast-degree c = omega (arith, c.shared-slice-known.given c.before.before.loop.i)
+cast-degree : tie.Need-overflow_cast-degree invariant-loop-i decreases-loop-i
+cast-degree c = omega (arith, c.shared_slice_known-1.given c.loop-i.i)
 
-add-degree : tie.Need-overflow-add-degree invariant-loop decreases-loop
-add-degree c = omega (arith, c.shared-slice-known.given c.before.before.loop.i)
+add-degree : tie.Need-overflow_add-degree invariant-loop-i decreases-loop-i
+add-degree c = omega (arith, c.shared_slice_known-1.given c.loop-i.i)
 
-add-result : tie.Need-overflow-add-result invariant-loop decreases-loop
+add-result : tie.Need-overflow_add-result invariant-loop-i decreases-loop-i
 add-result c = search rules
 
-returns : tie.Need-returns invariant-loop decreases-loop
+returns : tie.Need-returns-then-degree-gt-LIMIT invariant-loop-i decreases-loop-i
 returns c = omega (arith, step c.before.before)
 
-add-i : tie.Need-overflow-add-i invariant-loop decreases-loop
+add-i : tie.Need-overflow_add-i invariant-loop-i decreases-loop-i
 add-i c = search rules
 
-loop-less : tie.Need-loop-smaller invariant-loop decreases-loop
+loop-less : tie.Need-loop-i-smaller invariant-loop-i decreases-loop-i
 loop-less c = search rules
 
-loop-again : tie.Need-loop-preserved invariant-loop decreases-loop
+loop-again : tie.Need-loop-i-preserved invariant-loop-i decreases-loop-i
 loop-again c = omega (arith, step c.before.before)
 
-returns-2 : tie.Need-returns-2 invariant-loop decreases-loop
+returns-2 : tie.Need-returns invariant-loop-i decreases-loop-i
 returns-2 c =
-    let ps = c.before.before.args.parts.now in
-    omega (arith, ap degree (none_left ps c.before.loop.i c.loop-test.false))
+    let ps = c.args.parts.now in
+    omega (arith, ap degree (none_left ps c.loop-i.i c.loop-i-test.false))
 
-pub capped-degree-spec : {M : Type 1} → statement M
-capped-degree-spec =
+pub capped_degree_spec : {M : Type 1} → statement M
+capped_degree_spec =
     tie.close
     (tie.spec
-    invariant-loop
-    decreases-loop
+    invariant-loop-i
+    decreases-loop-i
     loop-holds
     shared-slice-read-degree
     cast-degree

@@ -6,17 +6,17 @@ use borrow.Author.Rules.{rules}
 use Rattle.words.proofs.lists.part_at.Statement.{statement}
 use Rattle.words.proofs.lists.part_at.Tie as tie
 
-shared-slice-read-result : tie.Need-shared-slice-read-result
+shared-slice-read-result : tie.Need-bounds-parts-i
 shared-slice-read-result c = search rules
 
-cast-result : tie.Need-overflow-cast-result
-cast-result c = omega (arith, c.shared-slice-known.given c.before.before.args.i)
+cast-result : tie.Need-overflow_cast-result
+cast-result c = omega (arith, c.shared_slice_known-1.given c.args.i)
 
-returns : tie.Need-returns
+returns : tie.Need-returns-then-i-parts
 returns c = search rules
 
-returns-2 : tie.Need-returns-2
-returns-2 c = sym (get_or-eq_default c.before.args.parts.now 0 c.if1.false)
+returns-2 : tie.Need-returns-else-i-parts
+returns-2 c = sym (get_or-eq_default c.args.parts.now 0 c.if-i-parts.false)
 
-pub part-at-spec : {M : Type 1} → statement M
-part-at-spec = tie.close (tie.spec shared-slice-read-result cast-result returns returns-2)
+pub part_at_spec : {M : Type 1} → statement M
+part_at_spec = tie.close (tie.spec shared-slice-read-result cast-result returns returns-2)

@@ -17,12 +17,12 @@ use Rattle.words.proofs.PartLists.{first-left, next-left, none_left}
 use Rattle.words.proofs.shapes.bits.Statement.{statement}
 use Rattle.words.proofs.shapes.bits.Tie as tie
 
-abbrev invariant-loop : tie.invariant-loop
-invariant-loop parts left₀ bits₀ i₀ left bits i =
+abbrev invariant-loop-i : tie.invariant-loop-i
+invariant-loop-i parts left₀ bits₀ i₀ left bits i =
     HasRoom left (drop i parts) × (left ≤ 31) × (shape_word parts ≡ bits + word left (shape_digits (drop i parts)))
 
-abbrev decreases-loop : tie.decreases-loop
-decreases-loop parts left₀ bits₀ i₀ left bits i = length parts - i
+abbrev decreases-loop-i : tie.decreases-loop-i
+decreases-loop-i parts left₀ bits₀ i₀ left bits i = length parts - i
 
 -- The row r of ps before the rows rs, of which q is the first, is added to the first of `left` digits as a zero and the
 -- ones between two masks.
@@ -48,82 +48,82 @@ row-added left r q ps rs f l e eq =
       wrote = rw (e, ← eq) (shape-word-front left r rs p.falls room);
     })
 
-abbrev parts : tie.After-part-at2 invariant-loop decreases-loop → Parts
-parts c = c.before.before.before.before.before.args.parts.now
+abbrev parts : tie.After-part_at-in-loop-i invariant-loop-i decreases-loop-i → Parts
+parts c = c.args.parts.now
 
-step : (c : tie.After-part-at2 invariant-loop decreases-loop)
+step : (c : tie.After-part_at-in-loop-i invariant-loop-i decreases-loop-i)
     → let ps = parts c in
-    let i = c.before.before.before.loop.i in
-    let l = c.before.before.before.loop.left in
-    let r = c.before.part_at.result in
-    let q = c.part-at2.result in
+    let i = c.loop-i.i in
+    let l = c.loop-i.left in
+    let r = c.part_at.result in
+    let q = c.part_at-in-loop-i.result in
     RowAdded l r q (drop i ps) (drop (i + 1) ps) (1 * 2 ^ (l - 1) % 2 ^ 32) (1 * 2 ^ (l - 1 - (r - q)) % 2 ^ 32)
 step c =
     let ps = parts c in
-    let i = c.before.before.before.loop.i in
-    let v = c.before.before.before.loop.invariant in
-    let e = rw (← c.before.part_at.ensures) at (next-left ps i c.before.before.loop-test.true) in
-    row-added _ _ _ (drop i ps) (drop (i + 1) ps) v.0 v.1 e (first-left ps (i + 1) ∙ sym c.part-at2.ensures)
+    let i = c.loop-i.i in
+    let v = c.loop-i.invariant in
+    let e = rw (← c.part_at.ensures) at (next-left ps i c.loop-i-test.true) in
+    row-added _ _ _ (drop i ps) (drop (i + 1) ps) v.0 v.1 e (first-left ps (i + 1) ∙ sym c.part_at-in-loop-i.ensures)
 
-loop-holds : tie.Need-loop-init invariant-loop decreases-loop
+loop-holds : tie.Need-loop-i-init invariant-loop-i decreases-loop-i
 loop-holds c =
-    let p = c.before.requires in
-    (small-has-room c.before.args.parts.now p.partition (omega arith), omega arith, omega arith)
+    let p = c.requires in
+    (small-has-room c.args.parts.now p.partition (omega arith), omega arith, omega arith)
 
-part-at-requires : tie.Need-part-at-requires invariant-loop decreases-loop
+part-at-requires : tie.Need-part_at-requires invariant-loop-i decreases-loop-i
 part-at-requires c κs = search rules
 
-add-part-at : tie.Need-overflow-add-part-at invariant-loop decreases-loop
+add-part-at : tie.Need-overflow_add-i invariant-loop-i decreases-loop-i
 add-part-at c = search rules
 
-part-at-requires-2 : tie.Need-part-at-requires-2 invariant-loop decreases-loop
+part-at-requires-2 : tie.Need-part_at-requires-in-loop-i invariant-loop-i decreases-loop-i
 part-at-requires-2 c κs = search rules
 
-sub_more : tie.Need-overflow-sub-more invariant-loop decreases-loop
+sub_more : tie.Need-overflow_sub-more invariant-loop-i decreases-loop-i
 sub_more c = omega (arith, step c)
 
-sub-top : tie.Need-overflow-sub-top invariant-loop decreases-loop
+sub-top : tie.Need-overflow_sub-top invariant-loop-i decreases-loop-i
 sub-top c = omega (arith, step c)
 
-sub-left : tie.Need-overflow-sub-left invariant-loop decreases-loop
+sub-left : tie.Need-overflow_sub-left invariant-loop-i decreases-loop-i
 sub-left c = omega (arith, step c)
 
-shl-bits : tie.Need-overflow-shl-bits invariant-loop decreases-loop
+shl-bits : tie.Need-overflow_shl-bits invariant-loop-i decreases-loop-i
 shl-bits c = omega (arith, step c)
 
-shl-bits-2 : tie.Need-overflow-shl-bits-2 invariant-loop decreases-loop
+shl-bits-2 : tie.Need-overflow_shl-bits-in-loop-i invariant-loop-i decreases-loop-i
 shl-bits-2 c = omega (arith, step c)
 
-sub-bits : tie.Need-overflow-sub-bits invariant-loop decreases-loop
+sub-bits : tie.Need-overflow_sub-bits invariant-loop-i decreases-loop-i
 sub-bits c = omega (arith, step c)
 
-add-bits : tie.Need-overflow-add-bits invariant-loop decreases-loop
+add-bits : tie.Need-overflow_add-bits invariant-loop-i decreases-loop-i
 add-bits c = omega (arith, step c, word_below 31 (shape_digits (parts c)))
 
-add-i : tie.Need-overflow-add-i invariant-loop decreases-loop
+add-i : tie.Need-overflow_add-i-in-loop-i invariant-loop-i decreases-loop-i
 add-i c = search rules
 
-loop-less : tie.Need-loop-smaller invariant-loop decreases-loop
-loop-less c = omega (arith, c.before.before.loop-test.true)
+loop-less : tie.Need-loop-i-smaller invariant-loop-i decreases-loop-i
+loop-less c = omega (arith, c.loop-i-test.true)
 
-loop-again : tie.Need-loop-preserved invariant-loop decreases-loop
+loop-again : tie.Need-loop-i-preserved invariant-loop-i decreases-loop-i
 loop-again c =
     let s = step c in
-    let v = c.before.before.before.loop.invariant in
+    let v = c.loop-i.invariant in
     (s.fits, omega arith, omega arith)
 
-returns : tie.Need-returns invariant-loop decreases-loop
+returns : tie.Need-returns invariant-loop-i decreases-loop-i
 returns c =
-    let n = c.before.loop.left in
-    let e = none_left c.before.before.before.args.parts.now c.before.loop.i c.loop-test.false in
+    let n = c.loop-i.left in
+    let e = none_left c.args.parts.now c.loop-i.i c.loop-i-test.false in
     omega (arith, ap (λ (ps : Parts). word n (shape_digits ps)) e, word_none n)
 
-pub bits-spec : {M : Type 1} → statement M
-bits-spec =
+pub bits_spec : {M : Type 1} → statement M
+bits_spec =
     tie.close
     (tie.spec
-    invariant-loop
-    decreases-loop
+    invariant-loop-i
+    decreases-loop-i
     loop-holds
     part-at-requires
     add-part-at

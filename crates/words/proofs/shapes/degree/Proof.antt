@@ -12,33 +12,33 @@ use Rattle.words.proofs.Readings.{ShapeRead, reading-number, shape-read}
 use Rattle.words.proofs.shapes.degree.Statement.{statement}
 use Rattle.words.proofs.shapes.degree.Tie as tie
 
-abbrev word : tie.Else1 → ℕ
-word c = c.before.before.before.args.word
+abbrev word : tie.Else-shape-ne0 → ℕ
+word c = c.args.word
 
-pass : (c : tie.Else1) → ShapeRead degree_limit (word c) c.before.before.read.result
-pass c = shape-read degree_limit (word c) _ c.before.before.read.ensures c.if1.false
+pass : (c : tie.Else-shape-ne0) → ShapeRead degree_limit (word c) c.read-shape.result
+pass c = shape-read degree_limit (word c) _ c.read-shape.ensures c.if-shape-ne0.false
 
-read-requires : tie.Need-read-requires
+read-requires : tie.Need-read-shape-requires
 read-requires c κs = search rules
 
 refused-requires : tie.Need-refused-requires
 refused-requires c κs = search rules
 
-returns : tie.Need-returns
+returns : tie.Need-returns-then-shape-ne0
 unfolding shape_degree
 returns c =
-    let a = c.before.before.before in
-    let w = a.before.args.word in
-    let e = reading-number degree_limit w a.read.result a.read.ensures in
-    c.refused.ensures ∙ number-refused (shape_checks degree_limit w) _ _ e c.before.if1.true
+    let a = c in
+    let w = a.args.word in
+    let e = reading-number degree_limit w a.read-shape.result a.read-shape.ensures in
+    c.refused.ensures ∙ number-refused (shape_checks degree_limit w) _ _ e c.if-shape-ne0.true
 
-cast-given : tie.Need-overflow-cast-given
+cast-given : tie.Need-overflow_cast-shape
 cast-given c = search rules
 
 given-requires : tie.Need-given-requires
 given-requires c κs = search rules
 
-returns-2 : tie.Need-returns-2
+returns-2 : tie.Need-returns
 unfolding shape_degree
 returns-2 c =
     let w = word c.before.before in
@@ -46,5 +46,5 @@ returns-2 c =
     c.given.ensures
     ∙ number-given (shape_checks degree_limit w) (pos (degree (shape_of w))) _ p.none (ap pos p.degree)
 
-pub degree-spec : {M : Type 1} → statement M
-degree-spec = tie.close (tie.spec read-requires refused-requires returns cast-given given-requires returns-2)
+pub degree_spec : {M : Type 1} → statement M
+degree_spec = tie.close (tie.spec read-requires refused-requires returns cast-given given-requires returns-2)

@@ -16,74 +16,74 @@ use Rattle.theory.proofs.ShapeWord.Counts.{conjugate-of-zero}
 use Rattle.words.proofs.shapes.flipped.Statement.{statement}
 use Rattle.words.proofs.shapes.flipped.Tie as tie
 
-abbrev invariant-loop : tie.invariant-loop
-invariant-loop w after rest₀ left₀ out₀ rest left out =
+abbrev invariant-loop-left : tie.invariant-loop-left
+invariant-loop-left w after rest₀ left₀ out₀ rest left out =
     (after ≤ left) × (left ≤ 31) × (conjugate_word w ≡ out + word left (flips (left - after) rest))
 
-abbrev decreases-loop : tie.decreases-loop
-decreases-loop w after rest₀ left₀ out₀ rest left out = left
+abbrev decreases-loop-left : tie.decreases-loop-left
+decreases-loop-left w after rest₀ left₀ out₀ rest left out = left
 
 -- bit 31 is no trailing zero
-trailing : (c : tie.Else1 invariant-loop decreases-loop)
-    → count_trailing_zeros 32 c.before.args.word ≡ count_trailing_zeros 31 c.before.args.word
-trailing c = trailing-more 31 _ (pos_of_ne-zero c.if1.false) c.before.requires
+trailing : (c : tie.Else-word-eq0 invariant-loop-left decreases-loop-left)
+    → count_trailing_zeros 32 c.args.word ≡ count_trailing_zeros 31 c.args.word
+trailing c = trailing-more 31 _ (pos_of_ne-zero c.if-word-eq0.false) c.requires
 
-room : (c : tie.Else1 invariant-loop decreases-loop) → count_trailing_zeros 32 c.before.args.word ≤ 31
-room c = omega (arith, trailing c, trailing_le 31 c.before.args.word)
+room : (c : tie.Else-word-eq0 invariant-loop-left decreases-loop-left) → count_trailing_zeros 32 c.args.word ≤ 31
+room c = omega (arith, trailing c, trailing_le 31 c.args.word)
 
-step : (c : tie.In-loop invariant-loop decreases-loop)
-    → let t = count_trailing_zeros 32 c.before.before.before.args.word in
-    let l = c.before.loop.left in
-    let x = c.before.loop.rest in
+step : (c : tie.In-loop-left invariant-loop-left decreases-loop-left)
+    → let t = count_trailing_zeros 32 c.args.word in
+    let l = c.loop-left.left in
+    let x = c.loop-left.rest in
     word l (flips (l - t) x) ≡ (1 - x % 2) * 2 ^ (l - 1) % 2 ^ 32 + word (l - 1) (flips (l - 1 - t) (x / 2))
 step c =
-    let t = count_trailing_zeros 32 c.before.before.before.args.word in
-    flip-step 32 c.before.loop.left t c.before.loop.rest (omega arith) (omega arith)
+    let t = count_trailing_zeros 32 c.args.word in
+    flip-step 32 c.loop-left.left t c.loop-left.rest (omega arith) (omega arith)
 
-returns : tie.Need-returns invariant-loop decreases-loop
-returns c = sym (ap conjugate_word c.if1.true ∙ conjugate-of-zero 31)
+returns : tie.Need-returns-then-word-eq0 invariant-loop-left decreases-loop-left
+returns c = sym (ap conjugate_word c.if-word-eq0.true ∙ conjugate-of-zero 31)
 
-shr-rest : tie.Need-overflow-shr-rest invariant-loop decreases-loop
+shr-rest : tie.Need-overflow_shr-rest invariant-loop-left decreases-loop-left
 shr-rest c = omega (arith, room c)
 
-loop-holds : tie.Need-loop-init invariant-loop decreases-loop
+loop-holds : tie.Need-loop-left-init invariant-loop-left decreases-loop-left
 loop-holds c =
-    let w = c.before.args.word in
+    let w = c.args.word in
     let e : conjugate_word w ≡ word 31 (flips (31 - count_trailing_zeros 32 w) (w / 2 ^ count_trailing_zeros 32 w)) =
     rw (trailing c) (ap (word 31) (conjugate-digits 31 w)) in
     (room c, omega arith, omega arith)
 
-sub-left : tie.Need-overflow-sub-left invariant-loop decreases-loop
+sub-left : tie.Need-overflow_sub-left invariant-loop-left decreases-loop-left
 sub-left c = search rules
 
-sub_out : tie.Need-overflow-sub-out invariant-loop decreases-loop
+sub_out : tie.Need-overflow_sub-out invariant-loop-left decreases-loop-left
 sub_out c = search rules
 
-shl-out : tie.Need-overflow-shl-out invariant-loop decreases-loop
+shl-out : tie.Need-overflow_shl-out invariant-loop-left decreases-loop-left
 shl-out c = search rules
 
-add-out : tie.Need-overflow-add-out invariant-loop decreases-loop
-add-out c = omega (arith, step c, word_below 31 (conjugate (digits 31 c.before.before.before.args.word)))
+add-out : tie.Need-overflow_add-out invariant-loop-left decreases-loop-left
+add-out c = omega (arith, step c, word_below 31 (conjugate (digits 31 c.args.word)))
 
-loop-less : tie.Need-loop-smaller invariant-loop decreases-loop
+loop-less : tie.Need-loop-left-smaller invariant-loop-left decreases-loop-left
 loop-less c = search rules
 
-loop-again : tie.Need-loop-preserved invariant-loop decreases-loop
+loop-again : tie.Need-loop-left-preserved invariant-loop-left decreases-loop-left
 loop-again c = omega (arith, step c)
 
-returns-2 : tie.Need-returns-2 invariant-loop decreases-loop
+returns-2 : tie.Need-returns invariant-loop-left decreases-loop-left
 returns-2 c =
-    let t = count_trailing_zeros 32 c.before.before.before.args.word in
-    let e : c.before.loop.left ≡ t = omega arith in
-    let f = ap (λ (l : ℕ). word l (flips (l - t) c.before.loop.rest)) e ∙ flip-end t c.before.loop.rest in
+    let t = count_trailing_zeros 32 c.args.word in
+    let e : c.loop-left.left ≡ t = omega arith in
+    let f = ap (λ (l : ℕ). word l (flips (l - t) c.loop-left.rest)) e ∙ flip-end t c.loop-left.rest in
     omega arith
 
-pub flipped-spec : {M : Type 1} → statement M
-flipped-spec =
+pub flipped_spec : {M : Type 1} → statement M
+flipped_spec =
     tie.close
     (tie.spec
-    invariant-loop
-    decreases-loop
+    invariant-loop-left
+    decreases-loop-left
     returns
     shr-rest
     loop-holds

@@ -5,11 +5,11 @@ use Rattle.words.proofs.Readings.{reading-good}
 use Rattle.words.proofs.shapes.good.Statement.{statement}
 use Rattle.words.proofs.shapes.good.Tie as tie
 
-read-requires : tie.Need-read-requires
+read-requires : tie.Need-read-shape-requires
 read-requires c κs = search rules
 
 returns : tie.Need-returns
-returns c = reading-good degree_limit c.before.args.word c.read.result c.read.ensures
+returns c = reading-good degree_limit c.args.word c.read-shape.result c.read-shape.ensures
 
-pub good-spec : {M : Type 1} → statement M
-good-spec = tie.close (tie.spec read-requires returns)
+pub good_spec : {M : Type 1} → statement M
+good_spec = tie.close (tie.spec read-requires returns)

@@ -9,5 +9,5 @@ returns : tie.Need-returns
 unfolding ones_before
 returns c = dropped-counted c.args.word c.requires
 
-pub ones-in-front-spec : {M : Type 1} → statement M
-ones-in-front-spec = tie.close (tie.spec returns)
+pub ones_in_front_spec : {M : Type 1} → statement M
+ones_in_front_spec = tie.close (tie.spec returns)

@@ -13,58 +13,58 @@ use Rattle.words.proofs.ClassLoops.{parts_left, NextPart, next-part, no-parts-le
 use Rattle.words.proofs.shapes.pairs.Statement.{statement}
 use Rattle.words.proofs.shapes.pairs.Tie as tie
 
-abbrev invariant-loop : tie.invariant-loop
-invariant-loop word rest₀ at₀ zeros₀ pairs₀ rest at zeros pairs =
+abbrev invariant-loop-rest : tie.invariant-loop-rest
+invariant-loop-rest word rest₀ at₀ zeros₀ pairs₀ rest at zeros pairs =
     (at ≤ 31) × (rest < 2 ^ (31 - at)) × (zeros ≤ at) × (pairs ≤ 31 * at)
     × (degree (shape_of word) ≡ pairs + pairs_after zeros (parts_left at rest))
 
-abbrev decreases-loop : tie.decreases-loop
-decreases-loop word rest₀ at₀ zeros₀ pairs₀ rest at zeros pairs = rest
+abbrev decreases-loop-rest : tie.decreases-loop-rest
+decreases-loop-rest word rest₀ at₀ zeros₀ pairs₀ rest at zeros pairs = rest
 
-step : (c : tie.In-loop invariant-loop decreases-loop) → NextPart c.before.loop.at c.before.loop.rest
-step c = next-part _ _ c.loop-test.true c.before.loop.invariant.1
+step : (c : tie.In-loop-rest invariant-loop-rest decreases-loop-rest) → NextPart c.loop-rest.at c.loop-rest.rest
+step c = next-part _ _ c.loop-rest-test.true c.loop-rest.invariant.1
 
-loop-holds : tie.Need-loop-init invariant-loop decreases-loop
+loop-holds : tie.Need-loop-rest-init invariant-loop-rest decreases-loop-rest
 loop-holds c = omega (arith, degree-after (digits 31 c.args.word))
 
-sub-zeros : tie.Need-overflow-sub-zeros invariant-loop decreases-loop
+sub-zeros : tie.Need-overflow_sub-zeros invariant-loop-rest decreases-loop-rest
 sub-zeros c = omega (arith, step c)
 
-sub-zeros-2 : tie.Need-overflow-sub-zeros-2 invariant-loop decreases-loop
+sub-zeros-2 : tie.Need-overflow_sub-zeros-in-loop-rest invariant-loop-rest decreases-loop-rest
 sub-zeros-2 c = omega (arith, step c)
 
-add-zeros : tie.Need-overflow-add-zeros invariant-loop decreases-loop
+add-zeros : tie.Need-overflow_add-zeros invariant-loop-rest decreases-loop-rest
 add-zeros c = omega (arith, step c)
 
-add-pairs : tie.Need-overflow-add-pairs invariant-loop decreases-loop
+add-pairs : tie.Need-overflow_add-pairs invariant-loop-rest decreases-loop-rest
 add-pairs c = omega (arith, step c)
 
-sub-rest : tie.Need-overflow-sub-rest invariant-loop decreases-loop
+sub-rest : tie.Need-overflow_sub-rest invariant-loop-rest decreases-loop-rest
 sub-rest c = omega (arith, step c)
 
-shl-rest : tie.Need-overflow-shl-rest invariant-loop decreases-loop
+shl-rest : tie.Need-overflow_shl-rest invariant-loop-rest decreases-loop-rest
 shl-rest c = search rules
 
-sub-rest-2 : tie.Need-overflow-sub-rest-2 invariant-loop decreases-loop
+sub-rest-2 : tie.Need-overflow_sub-rest-in-loop-rest invariant-loop-rest decreases-loop-rest
 sub-rest-2 c = omega (arith, step c)
 
-loop-less : tie.Need-loop-smaller invariant-loop decreases-loop
+loop-less : tie.Need-loop-rest-smaller invariant-loop-rest decreases-loop-rest
 loop-less c = omega (arith, step c)
 
-loop-again : tie.Need-loop-preserved invariant-loop decreases-loop
-loop-again c = let s = step c in omega (arith, ap (pairs_after c.before.loop.zeros) s.reads)
+loop-again : tie.Need-loop-rest-preserved invariant-loop-rest decreases-loop-rest
+loop-again c = let s = step c in omega (arith, ap (pairs_after c.loop-rest.zeros) s.reads)
 
-returns : tie.Need-returns invariant-loop decreases-loop
+returns : tie.Need-returns invariant-loop-rest decreases-loop-rest
 returns c =
-    let l = c.before.loop in
-    omega (arith, ap (pairs_after l.zeros) (no-parts-left l.at l.rest c.loop-test.false))
+    let l = c.loop-rest in
+    omega (arith, ap (pairs_after l.zeros) (no-parts-left l.at l.rest c.loop-rest-test.false))
 
-pub pairs-spec : {M : Type 1} → statement M
-pairs-spec =
+pub pairs_spec : {M : Type 1} → statement M
+pairs_spec =
     tie.close
     (tie.spec
-    invariant-loop
-    decreases-loop
+    invariant-loop-rest
+    decreases-loop-rest
     loop-holds
     sub-zeros
     sub-zeros-2

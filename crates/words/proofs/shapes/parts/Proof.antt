@@ -14,45 +14,45 @@ use Rattle.words.proofs.Measures.{parts-refused, parts-pass, parts-given}
 use Rattle.words.proofs.shapes.parts.Statement.{statement}
 use Rattle.words.proofs.shapes.parts.Tie as tie
 
-abbrev w : tie.After-count-within → ℕ
-w c = c.before.before.before.args.word
+abbrev w : tie.After-count_within-answer → ℕ
+w c = c.args.word
 
-abbrev column : tie.After-count-within → Parts
-column c = c.before.before.before.args.column.now
+abbrev column : tie.After-count_within-answer → Parts
+column c = c.args.column.now
 
 measure-requires : tie.Need-measure-requires
 measure-requires c κs = search rules
 
-count-within-requires : tie.Need-count-within-requires
+count-within-requires : tie.Need-count_within-answer-requires
 count-within-requires c κs = search rules
 
-returns : tie.Need-returns
+returns : tie.Need-returns-then-answer-ne0
 unfolding shape_parts_into
 returns c =
-    let a = c.before.before in
-    parts-refused (shape_checks degree_limit (w a)) refl (shape_of (w a)) (column a) _ a.before.measure.ensures _
-    a.count-within.ensures c.if1.true
+    let a = c in
+    parts-refused (shape_checks degree_limit (w a.before.before)) refl (shape_of (w a.before.before)) (column a.before.before) _ a.measure.ensures _
+    a.count_within-answer.ensures c.if-answer-ne0.true
 
-write-rows-requires : tie.Need-write-rows-requires
+write-rows-requires : tie.Need-write_rows-requires
 write-rows-requires c κs =
-    let a = c.before.before.before in
+    let a = c in
     let (none, room) =
-    parts-pass (shape_checks degree_limit (w a)) refl (shape_of (w a)) (column a) _ a.before.measure.ensures _
-    a.count-within.ensures c.before.if1.false in
-    (ltb-true (w a) (2 ^ width) (shape-clear degree_limit (w a) none), room)
+    parts-pass (shape_checks degree_limit (w a.before.before.before)) refl (shape_of (w a.before.before.before)) (column a.before.before.before) _ a.measure.ensures _
+    a.count_within-answer.ensures c.if-answer-ne0.false in
+    (ltb-true (w a.before.before.before) (2 ^ width) (shape-clear degree_limit (w a.before.before.before) none), room)
 
-same_length : tie.Need-same-length
+same_length : tie.Need-shape_of-column
 same_length c = search rules
 
-returns-2 : tie.Need-returns-2
+returns-2 : tie.Need-returns
 unfolding shape_parts_into
 returns-2 c =
-    let wrote = c.before.before in
-    let a = wrote.before.before.before.before in
-    parts-given (shape_checks degree_limit (w a)) refl (shape_of (w a)) (column a) _ a.before.measure.ensures _
-    a.count-within.ensures wrote.before.before.if1.false _ wrote.write-rows.ensures
+    let wrote = c in
+    let a = wrote in
+    parts-given (shape_checks degree_limit (w a.before.before.before.before.before.before)) refl (shape_of (w a.before.before.before.before.before.before)) (column a.before.before.before.before.before.before) _ a.measure.ensures _
+    a.count_within-answer.ensures wrote.if-answer-ne0.false _ wrote.write_rows.ensures
 
-pub parts-spec : {M : Type 1} → statement M
-parts-spec =
+pub parts_spec : {M : Type 1} → statement M
+parts_spec =
     tie.close
     (tie.spec measure-requires count-within-requires returns write-rows-requires same_length returns-2)

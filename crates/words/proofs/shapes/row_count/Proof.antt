@@ -11,25 +11,25 @@ use Rattle.theory.proofs.ShapeWord.Counts.{rows-trailing, rows-of-zero}
 use Rattle.words.proofs.shapes.row_count.Statement.{statement}
 use Rattle.words.proofs.shapes.row_count.Tie as tie
 
-counted : (c : tie.Else1)
-    → let w = c.before.args.word in
+counted : (c : tie.Else-word-eq0)
+    → let w = c.args.word in
     length (shape_of w) + Count.ones w + Count.count_trailing_zeros 32 w ≡ 31
 counted c =
-    let w = c.before.args.word in
-    let h = c.before.requires in
-    rw (trailing-more 31 w (pos_of_ne-zero c.if1.false) h, ← ones-digits 31 w h) (rows-trailing 31 w)
+    let w = c.args.word in
+    let h = c.requires in
+    rw (trailing-more 31 w (pos_of_ne-zero c.if-word-eq0.false) h, ← ones-digits 31 w h) (rows-trailing 31 w)
 
-returns : tie.Need-returns
-returns c = sym (ap (λ (w : ℕ). length (shape_of w)) c.if1.true ∙ ap length (rows-of-zero 31))
+returns : tie.Need-returns-then-word-eq0
+returns c = sym (ap (λ (w : ℕ). length (shape_of w)) c.if-word-eq0.true ∙ ap length (rows-of-zero 31))
 
-sub-result : tie.Need-overflow-sub-result
+sub-result : tie.Need-overflow_sub-result
 sub-result c = omega (arith, counted c)
 
-sub-result-2 : tie.Need-overflow-sub-result-2
+sub-result-2 : tie.Need-overflow_sub-result-2
 sub-result-2 c = omega (arith, counted c)
 
-returns-2 : tie.Need-returns-2
+returns-2 : tie.Need-returns
 returns-2 c = omega (arith, counted c)
 
-pub row-count-spec : {M : Type 1} → statement M
-row-count-spec = tie.close (tie.spec returns sub-result sub-result-2 returns-2)
+pub row_count_spec : {M : Type 1} → statement M
+row_count_spec = tie.close (tie.spec returns sub-result sub-result-2 returns-2)

@@ -11,26 +11,26 @@ use Rattle.words.proofs.Measures.{list-fits}
 use Rattle.words.proofs.shapes.word.Statement.{statement}
 use Rattle.words.proofs.shapes.word.Tie as tie
 
-refusal-requires : tie.Need-refusal-requires
+refusal-requires : tie.Need-refusal-refused-requires
 refusal-requires c κs = search rules
 
-returns : tie.Need-returns
+returns : tie.Need-returns-then-refused-ne0
 unfolding shape_word_from
 returns c =
-    let ps = c.before.before.before.args.parts.now in
-    word-refused (shape_list_checks degree_limit ps) (shape_word ps) _ c.before.refusal.ensures c.if1.true
+    let ps = c.args.parts.now in
+    word-refused (shape_list_checks degree_limit ps) (shape_word ps) _ c.refusal-refused.ensures c.if-refused-ne0.true
 
 bits-requires : tie.Need-bits-requires
 bits-requires c κs =
-    let ps = c.before.before.before.args.parts.now in
-    list-fits degree_limit 2 ps (omega arith) refl (sym c.before.refusal.ensures ∙ c.if1.false)
+    let ps = c.args.parts.now in
+    list-fits degree_limit 2 ps (omega arith) refl (sym c.refusal-refused.ensures ∙ c.if-refused-ne0.false)
 
-returns-2 : tie.Need-returns-2
+returns-2 : tie.Need-returns
 unfolding shape_word_from
 returns-2 c =
-    let ps = c.before.before.before.before.args.parts.now in
-    let none = sym c.before.before.refusal.ensures ∙ c.before.if1.false in
+    let ps = c.args.parts.now in
+    let none = sym c.refusal-refused.ensures ∙ c.if-refused-ne0.false in
     word-given (shape_list_checks degree_limit ps) (shape_word ps) _ none c.bits.ensures
 
-pub word-spec : {M : Type 1} → statement M
-word-spec = tie.close (tie.spec refusal-requires returns bits-requires returns-2)
+pub word_spec : {M : Type 1} → statement M
+word_spec = tie.close (tie.spec refusal-requires returns bits-requires returns-2)

@@ -1,0 +1,186 @@
+#!/usr/bin/env python3
+"""Brings the proofs of one crate from the older names of goals, places and steps to those that Rattle makes today.
+
+    (in crates/NAME) rt check --generated /tmp/names/NAME --old-names
+    python3 tools/name_goals.py NAME /tmp/names/NAME/names.json
+
+Run once for a crate. The list of answers that a proof hands to tie.spec tells which goal each answers: goals stand there
+in the order of the list that rt makes; where the numbers differ, goals are found by name. A place has the steps of all
+places before it, so `.before` goes in front of a step; where a lemma takes a place, so many `.before` as lead there stay.
+"""
+import json
+import os
+import re
+import sys
+
+LOGIC = r"[^\s.()\[\]{},;|]+"
+
+
+def plain(name):
+    return re.sub(r"^(overflow|nonzero|offset_bounds|bounds)[-_]", "", name).replace("-", "_")
+
+
+class Proof:
+    def __init__(self, entry, path, text):
+        self.path, self.text, self.said = path, text, []
+        self.needs = entry["needs"]
+        self.asked = [new for _, new in entry["asked_at"]]
+        self.new_place, self.parent, steps = {}, {}, {}
+        for place, new in zip(entry["places"], entry["places_by_name"]):
+            self.new_place[place[0].replace("-", "_")] = new
+            self.parent[new] = place[1] and self.new_place[place[1].replace("-", "_")]
+            old, now = place[2]
+            if old:
+                steps.setdefault(old.replace("-", "_"), set()).add(now)
+        self.steps = {}
+        for old, now in steps.items():
+            if len(now) > 1:
+                self.said.append(f"{path}: step {old} is now one of {sorted(now)}")
+            else:
+                self.steps[old] = now.pop()
+        self.loops = [it[0] for it in entry["loops"]]
+        self.place_of_goal = {}
+
+    def goals(self):
+        text = self.text
+        spec = re.search(r"tie\.spec\s((?:[^()]|\([^()]*\))*)\)", text)
+        answers = spec[1].split() if spec else []
+        kinds = dict(re.findall(r"^(?:abbrev |unfoldable )?([^\s:]+) : tie\.(\S+)", text, re.M))
+        answers = [a for a in answers if not kinds.get(a, "").startswith(("invariant-", "decreases-"))]
+        if len(answers) == len(self.needs) and all(a in kinds for a in answers):
+            for answer, (_, new), place in zip(answers, self.needs, self.asked):
+                self.place_of_goal[answer] = place
+                text = re.sub(
+                    rf"^({re.escape(answer)} : tie\.)Need-\S+", lambda m: f"{m[1]}Need-{new}", text, count=1, flags=re.M
+                )
+        else:
+            said = f"{self.path}: {len(answers)} answers {answers}, {len(self.needs)} goals: {[n for _, n in self.needs]}"
+            self.said.append(said)
+            by = {}
+            for (old, new), place in zip(self.needs, self.asked):
+                by.setdefault(plain(old), (new, place))
+            for answer, kind in kinds.items():
+                if not kind.startswith("Need-"):
+                    continue
+                new, place = by.get(plain(kind[5:]), (kind[5:], None))
+                if place is None:
+                    self.said.append(f"{self.path}: no goal for {answer} : {kind}")
+                self.place_of_goal[answer] = place
+                text = re.sub(
+                    rf"^({re.escape(answer)} : tie\.)Need-\S+", lambda m: f"{m[1]}Need-{new}", text, count=1, flags=re.M
+                )
+        self.text = text
+
+    def places(self):
+        self.text = re.sub(
+            r"tie\.((?:At|In|After|Then|Else|Joined|Start|Arm|Case)[^\s()]*)",
+            lambda m: "tie." + self.new_place.get(m[1].replace("-", "_"), m[1]),
+            self.text,
+        )
+        for old, new in self.loops:
+            self.text = re.sub(
+                rf"(?<![\w-])(tie\.)?(invariant|decreases)-{re.escape(old)}(?![\w-])",
+                lambda m: f"{m[1] or ''}{m[2]}-{new}",
+                self.text,
+            )
+
+    def distance(self, place, to):
+        count = 0
+        while place is not None and place != to:
+            place, count = self.parent.get(place), count + 1
+        return count if place == to else None
+
+    def bodies(self):
+        blocks = re.split(r"(?m)^(?=\S)", self.text)
+        takes = {}
+        for block in blocks:
+            m = re.match(r"(?:abbrev |unfoldable )?(\S+) : \((\w+) : tie\.(\S+?)[ )]", block)
+            if not m:
+                m = re.match(r"(?:abbrev |unfoldable )?(\S+) : ()tie\.((?:At|In|After|Then|Else|Joined|Start)\S*)", block)
+            if m and m[3] in self.parent:
+                takes[m[1]] = m[3]
+        out = []
+        for block in blocks:
+            head = re.match(r"(?:abbrev |unfoldable )?([^\s:]+)", block)
+            name = head[1] if head else None
+            place = takes.get(name) or self.place_of_goal.get(name)
+            out.append(self.body(block, name, place, takes))
+        self.text = "".join(out)
+
+    def body(self, block, name, place, takes):
+        if block.startswith(("use ", "--", "pub use")):
+            return block
+        var = re.match(rf"{re.escape(name or '')} (\w+)[ =]", block)
+        at = {}
+        if place:
+            m = re.match(r"(?:abbrev )?\S+ : \((\w+) : tie\.", block)
+            at[m[1] if m else (var[1] if var else "c")] = place
+        # names for a place before
+        for m in re.finditer(r"let (\w+) = (\w+)((?:\.before)*) in", block):
+            if m[2] in at:
+                at[m[1]] = at[m[2]]
+        block = re.sub(
+            r"let (\w+) = (\w+)((?:\.before)+) in", lambda m: f"let {m[1]} = {m[2]} in" if m[2] in at else m[0], block
+        )
+
+        # lemmas that take a place
+        def given(m):
+            if m[1] in takes and m[2] in at:
+                steps = self.distance(at[m[2]], takes[m[1]])
+                if steps is None:
+                    self.said.append(f"{self.path}: {name}: {m[1]} takes {takes[m[1]]}, which is not before {at[m[2]]}")
+                else:
+                    return f"{m[1]} {m[2]}{'.before' * steps}"
+            return m[0]
+
+        if takes:
+            names = "|".join(re.escape(it) for it in sorted(takes, key=len, reverse=True))
+            block = re.sub(rf"(?<![^\s(]) *(?<![\w.-])({names}) (\w+)((?:\.before)*)(?![\w.])".replace(" *", ""), given, block)
+
+        # steps
+        def path(m):
+            parts = m[0].split(".")
+            root, rest = parts[0], parts[1:]
+            befores = 0
+            while befores < len(rest) and rest[befores] == "before":
+                befores += 1
+            if befores == len(rest):
+                return m[0]
+            step = rest[befores]
+            new = self.steps.get(step.replace("-", "_"), step)
+            if root in at:
+                return ".".join([root, new, *rest[befores + 1 :]])
+            if befores or new != step and root not in ("l",):
+                return ".".join([root, *rest[:befores], new, *rest[befores + 1 :]])
+            return m[0]
+
+        return re.sub(rf"(?<![\w.)])\w+(?:\.{LOGIC})+", path, block)
+
+
+def main():
+    crate, names = sys.argv[1], json.load(open(sys.argv[2], encoding="utf-8"))
+    for key, entry in names.items():
+        head, _, rest = key.partition("-proofs.")
+        if head != f"Rattle-{crate}" or not rest.endswith(".Lts"):
+            continue
+        path = f"crates/{crate}/proofs/{rest[:-4].replace('.', '/')}/Proof.antt"
+        if not os.path.exists(path):
+            if any(not new.endswith("returns") for _, new in entry["needs"]):
+                print("no file:", path)
+            continue
+        text = open(path, encoding="utf-8").read()
+        if "tie.spec" not in text:
+            print("no tie.spec:", path)
+            continue
+        proof = Proof(entry, path, text)
+        proof.goals()
+        proof.places()
+        proof.bodies()
+        text = re.sub(r"^pub (\S+)-spec :", lambda m: f"pub {m[1].replace('-', '_')}_spec :", proof.text, flags=re.M)
+        text = re.sub(r"^(\S+)-spec =", lambda m: f"{m[1].replace('-', '_')}_spec =", text, flags=re.M)
+        open(path, "w", encoding="utf-8").write(text)
+        for it in proof.said:
+            print(it)
+
+
+main()

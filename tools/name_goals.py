@@ -154,7 +154,10 @@ class Proof:
                 return ".".join([root, *rest[:befores], new, *rest[befores + 1 :]])
             return m[0]
 
-        return re.sub(rf"(?<![\w.)])\w+(?:\.{LOGIC})+", path, block)
+        block = re.sub(rf"(?<![\w.)])\w+(?:\.{LOGIC})+", path, block)
+        # a negated test says what its operand is, and a join has its two ways as a sum too
+        block = re.sub(r"not-(?:false|true) _ (\w+\.if-not-[^\s.()]+\.(?:false|true))", r"\1", block)
+        return re.sub(r"(\w+\.(?:if|match)-[^\s.()]+\.branch)(?![\w-])", r"\1-raw", block)
 
 
 def main():

@@ -10,47 +10,47 @@ use borrow.Author.Rules.{rules}
 use Rattle.clearing.proofs.coefficients.Statement.{statement}
 use Rattle.clearing.proofs.coefficients.Tie as tie
 
-abbrev invariant-loop : tie.invariant-loop
-invariant-loop column₀ from at₀ column at =
+abbrev invariant-loop-at : tie.invariant-loop-at
+invariant-loop-at column₀ from at₀ column at =
     (take at column ++ replicate (length column - at) (pos 0)
     ≡ take from column₀ ++ replicate (length column₀ - from) (pos 0))
     × (length column ≡ length column₀)
 
-abbrev decreases-loop : tie.decreases-loop
-decreases-loop column₀ from at₀ column at = length column - at
+abbrev decreases-loop-at : tie.decreases-loop-at
+decreases-loop-at column₀ from at₀ column at = length column - at
 
-loop-holds : tie.Need-loop-init invariant-loop decreases-loop
+loop-holds : tie.Need-loop-at-init invariant-loop-at decreases-loop-at
 loop-holds c = (refl, refl)
 
-mul-column : tie.Need-overflow-mul-column invariant-loop decreases-loop
+mul-column : tie.Need-offset_bounds-column-at invariant-loop-at decreases-loop-at
 mul-column c = search rules
 
-slice-set-of-column : tie.Need-slice-set-of-column invariant-loop decreases-loop
+slice-set-of-column : tie.Need-slice_set_of-column invariant-loop-at decreases-loop-at
 slice-set-of-column c = search rules
 
-add_at : tie.Need-overflow-add-at invariant-loop decreases-loop
+add_at : tie.Need-overflow_add-at invariant-loop-at decreases-loop-at
 add_at c = search rules
 
-loop-less : tie.Need-loop-smaller invariant-loop decreases-loop
+loop-less : tie.Need-loop-at-smaller invariant-loop-at decreases-loop-at
 loop-less c = simp length-set (omega arith)
 
-loop-again : tie.Need-loop-preserved invariant-loop decreases-loop
+loop-again : tie.Need-loop-at-preserved invariant-loop-at decreases-loop-at
 loop-again c =
-    let l = c.before.loop in
-    (clears-more (pos 0) _ l.at c.loop-test.true ∙ l.invariant.0, simp length-set l.invariant.1)
+    let l = c.loop-at in
+    (clears-more (pos 0) _ l.at c.loop-at-test.true ∙ l.invariant.0, simp length-set l.invariant.1)
 
-same_length : tie.Need-same-length invariant-loop decreases-loop
+same_length : tie.Need-shape_of-column invariant-loop-at decreases-loop-at
 same_length c = search rules
 
-returns : tie.Need-returns invariant-loop decreases-loop
-returns c = sym (cleared-all (pos 0) _ c.before.loop.at c.loop-test.false) ∙ c.before.loop.invariant.0
+returns : tie.Need-returns invariant-loop-at decreases-loop-at
+returns c = sym (cleared-all (pos 0) _ c.loop-at.at c.loop-at-test.false) ∙ c.loop-at.invariant.0
 
-pub coefficients-spec : {M : Type 1} → statement M
-coefficients-spec =
+pub coefficients_spec : {M : Type 1} → statement M
+coefficients_spec =
     tie.close
     (tie.spec
-    invariant-loop
-    decreases-loop
+    invariant-loop-at
+    decreases-loop-at
     loop-holds
     mul-column
     slice-set-of-column

@@ -8,46 +8,46 @@ use borrow.Author.Rules.{rules}
 use Rattle.clearing.proofs.words.Statement.{statement}
 use Rattle.clearing.proofs.words.Tie as tie
 
-abbrev invariant-loop : tie.invariant-loop
-invariant-loop page₀ from at₀ page at =
+abbrev invariant-loop-at : tie.invariant-loop-at
+invariant-loop-at page₀ from at₀ page at =
     (take at page ++ replicate (length page - at) 0 ≡ take from page₀ ++ replicate (length page₀ - from) 0)
     × (length page ≡ length page₀)
 
-abbrev decreases-loop : tie.decreases-loop
-decreases-loop page₀ from at₀ page at = length page - at
+abbrev decreases-loop-at : tie.decreases-loop-at
+decreases-loop-at page₀ from at₀ page at = length page - at
 
-loop-holds : tie.Need-loop-init invariant-loop decreases-loop
+loop-holds : tie.Need-loop-at-init invariant-loop-at decreases-loop-at
 loop-holds c = (refl, refl)
 
-mul-page : tie.Need-overflow-mul-page invariant-loop decreases-loop
+mul-page : tie.Need-offset_bounds-page-at invariant-loop-at decreases-loop-at
 mul-page c = search rules
 
-slice-write-page : tie.Need-slice-write-page invariant-loop decreases-loop
+slice-write-page : tie.Need-bounds-page-at invariant-loop-at decreases-loop-at
 slice-write-page c = search rules
 
-add_at : tie.Need-overflow-add-at invariant-loop decreases-loop
+add_at : tie.Need-overflow_add-at invariant-loop-at decreases-loop-at
 add_at c = search rules
 
-loop-less : tie.Need-loop-smaller invariant-loop decreases-loop
+loop-less : tie.Need-loop-at-smaller invariant-loop-at decreases-loop-at
 loop-less c = simp length-set (omega arith)
 
-loop-again : tie.Need-loop-preserved invariant-loop decreases-loop
+loop-again : tie.Need-loop-at-preserved invariant-loop-at decreases-loop-at
 loop-again c =
-    let l = c.before.loop in
-    (clears-more 0 _ l.at c.loop-test.true ∙ l.invariant.0, simp length-set l.invariant.1)
+    let l = c.loop-at in
+    (clears-more 0 _ l.at c.loop-at-test.true ∙ l.invariant.0, simp length-set l.invariant.1)
 
-same_length : tie.Need-same-length invariant-loop decreases-loop
+same_length : tie.Need-shape_of-page invariant-loop-at decreases-loop-at
 same_length c = search rules
 
-returns : tie.Need-returns invariant-loop decreases-loop
-returns c = sym (cleared-all 0 _ c.before.loop.at c.loop-test.false) ∙ c.before.loop.invariant.0
+returns : tie.Need-returns invariant-loop-at decreases-loop-at
+returns c = sym (cleared-all 0 _ c.loop-at.at c.loop-at-test.false) ∙ c.loop-at.invariant.0
 
-pub words-spec : {M : Type 1} → statement M
-words-spec =
+pub words_spec : {M : Type 1} → statement M
+words_spec =
     tie.close
     (tie.spec
-    invariant-loop
-    decreases-loop
+    invariant-loop-at
+    decreases-loop-at
     loop-holds
     mul-page
     slice-write-page

@@ -7,13 +7,13 @@ use Rattle.theory.specs.Hooks.Marks.Stretch.{raised}
 use Rattle.hooks.proofs.leaves.Statement.{statement}
 use Rattle.hooks.proofs.leaves.Tie as tie
 
-add-exchanged : tie.Need-overflow-add-exchanged
+add-exchanged : tie.Need-overflow_add-exchanged
 add-exchanged c = search rules
 
-cast-exchanged : tie.Need-overflow-cast-exchanged
+cast-exchanged : tie.Need-overflow_cast-exchanged-3
 cast-exchanged c = search rules
 
-shl-result : tie.Need-overflow-shl-result
+shl-result : tie.Need-overflow_shl-result
 unfolding ones_before
 shl-result c = ones-few _
 
@@ -21,5 +21,5 @@ returns : tie.Need-returns
 unfolding raised ones_out ones_before
 returns c = refl
 
-pub leaves-spec : {M : Type 1} → statement M
-leaves-spec = tie.close (tie.spec add-exchanged cast-exchanged shl-result returns)
+pub leaves_spec : {M : Type 1} → statement M
+leaves_spec = tie.close (tie.spec add-exchanged cast-exchanged shl-result returns)

@@ -6,15 +6,15 @@ use Rattle.theory.proofs.Hooks.Marks.Stretch.{marks-none}
 use Rattle.hooks.proofs.marks.Statement.{statement}
 use Rattle.hooks.proofs.marks.Tie as tie
 
-returns : tie.Need-returns
-returns c = sym (marks-none c.before.args.length (search rules) c.before.args.shape)
+returns : tie.Need-returns-then-length-gt31
+returns c = sym (marks-none c.args.length (search rules) c.args.shape)
 
-shl-result : tie.Need-overflow-shl-result
+shl-result : tie.Need-overflow_shl-result
 shl-result c = search rules
 
-returns-2 : tie.Need-returns-2
+returns-2 : tie.Need-returns
 unfolding marks
 returns-2 c = refl
 
-pub marks-spec : {M : Type 1} → statement M
-marks-spec = tie.close (tie.spec returns shl-result returns-2)
+pub marks_spec : {M : Type 1} → statement M
+marks_spec = tie.close (tie.spec returns shl-result returns-2)

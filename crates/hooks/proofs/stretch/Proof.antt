@@ -7,18 +7,18 @@ use Rattle.theory.proofs.Hooks.Marks.Stretch.{stretch-whole}
 use Rattle.hooks.proofs.stretch.Statement.{statement}
 use Rattle.hooks.proofs.stretch.Tie as tie
 
-returns : tie.Need-returns
-returns c = sym (stretch-whole c.before.args.length (search rules) c.before.args.zero (search rules))
+returns : tie.Need-returns-then-length-ge32
+returns c = sym (stretch-whole c.args.length (search rules) c.args.zero (search rules))
 
-shr-result : tie.Need-overflow-shr-result
+shr-result : tie.Need-overflow_shr-result
 shr-result c = search rules
 
-sub-result : tie.Need-overflow-sub-result
-sub-result c = shr_le c.before.args.zero c.before.args.length
+sub-result : tie.Need-overflow_sub-result
+sub-result c = shr_le c.args.zero c.args.length
 
-returns-2 : tie.Need-returns-2
+returns-2 : tie.Need-returns
 unfolding stretch
 returns-2 c = refl
 
-pub stretch-spec : {M : Type 1} → statement M
-stretch-spec = tie.close (tie.spec returns shr-result sub-result returns-2)
+pub stretch_spec : {M : Type 1} → statement M
+stretch_spec = tie.close (tie.spec returns shr-result sub-result returns-2)

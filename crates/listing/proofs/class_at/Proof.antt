@@ -9,49 +9,49 @@ use Rattle.listing.proofs.Ranks.{at, class-refused, parts-of-rank, class-given}
 use Rattle.listing.proofs.class_at.Statement.{statement}
 use Rattle.listing.proofs.class_at.Tie as tie
 
-shape-at-requires : tie.Need-shape-at-requires
+shape-at-requires : tie.Need-shape_at-shape-requires
 shape-at-requires c κs = search rules
 
-returns : tie.Need-returns
+returns : tie.Need-returns-then-shape-ne0
 returns c =
-    let a = c.before.before.before.args in
-    let shape = c.before.before.shape_at in
-    class-refused degree_limit a.degree a.rank shape.result shape.ensures c.if1.true
+    let a = c.args in
+    let shape = c.shape_at-shape in
+    class-refused degree_limit a.degree a.rank shape.result shape.ensures c.if-shape-ne0.true
 
-slice-aggregate-parts : tie.Need-slice-aggregate-parts
+slice-aggregate-parts : tie.Need-slice_bounds-parts-end
 slice-aggregate-parts c = search rules
 
-parts-requires : tie.Need-parts-requires
+parts-requires : tie.Need-parts-written-requires
 parts-requires c κs = search rules
 
-abbrev asked : tie.After-parts2 → tie.After-shape-at
+abbrev asked : tie.After-parts-written → tie.After-shape_at-shape
 asked c = c.before.before.before.before
 
-written : (c : tie.After-parts2) → let a = (asked c).before.args in
-    FrontGiven (at a.degree a.rank) c.parts2.result c.parts2.new.1.0
+written : (c : tie.After-parts-written) → let a = (asked c).before.args in
+    FrontGiven (at a.degree a.rank) c.parts-written.result c.parts-written.new.1.0
 written c =
     let shape = (asked c).shape_at in
-    parts-of-rank degree_limit _ _ shape.result shape.ensures (omega arith) c.before.before.if1.false _ _
-    c.parts2.ensures
+    parts-of-rank degree_limit _ _ shape.result shape.ensures (omega arith) c.if-shape-ne0.false _ _
+    c.parts-written.ensures
 
-array-share-prefix-parts : tie.Need-array-share-prefix-parts
+array-share-prefix-parts : tie.Need-slice_bounds-parts-end-2
 array-share-prefix-parts c = (written c.before).inside
 
-slice-aggregate-word : tie.Need-slice-aggregate-word
+slice-aggregate-word : tie.Need-slice_bounds-word-end
 slice-aggregate-word c = sym (length-take-le _ _ (written c.before.before).inside)
 
 word-requires : tie.Need-word-requires
 word-requires c κs = search rules
 
-returns-2 : tie.Need-returns-2
+returns-2 : tie.Need-returns
 returns-2 c =
-    let parts = c.before.before.before in
-    let shape = (asked parts).shape_at in
-    class-given degree_limit _ _ shape.result shape.ensures (omega arith) parts.before.before.if1.false _ _
-    parts.parts2.ensures _ c.word.ensures
+    let parts = c in
+    let shape = (asked parts.before.before.before).shape_at in
+    class-given degree_limit _ _ shape.result shape.ensures (omega arith) parts.if-shape-ne0.false _ _
+    parts.parts-written.ensures _ c.word.ensures
 
-pub class-at-spec : {M : Type 1} → statement M
-class-at-spec =
+pub class_at_spec : {M : Type 1} → statement M
+class_at_spec =
     tie.close
     (tie.spec
     shape-at-requires

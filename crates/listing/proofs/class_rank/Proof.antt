@@ -11,47 +11,47 @@ use Rattle.listing.proofs.Ranks.{class-rank-refused, parts-of-class, class-ranke
 use Rattle.listing.proofs.class_rank.Statement.{statement}
 use Rattle.listing.proofs.class_rank.Tie as tie
 
-slice-aggregate-parts : tie.Need-slice-aggregate-parts
+slice-aggregate-parts : tie.Need-slice_bounds-parts-end
 slice-aggregate-parts c = search rules
 
-parts-requires : tie.Need-parts-requires
+parts-requires : tie.Need-parts-written-requires
 parts-requires c κs = search rules
 
-abbrev word : tie.After-parts2 → ℕ
-word c = c.before.before.args.word
+abbrev word : tie.After-parts-written → ℕ
+word c = c.args.word
 
-returns : tie.Need-returns
+returns : tie.Need-returns-then-written-ne0
 returns c =
-    let parts = c.before.before.before in
-    class-rank-refused degree_limit (omega arith) (word parts) _ _ parts.parts2.ensures c.if1.true
+    let parts = c in
+    class-rank-refused degree_limit (omega arith) (word parts.before.before.before) _ _ parts.parts-written.ensures c.if-written-ne0.true
 
-written : (c : tie.Else1) → let parts = c.before.before.before in
-    FrontGiven (class_of (word parts)) parts.parts2.result parts.parts2.new.1.0
+written : (c : tie.Else-written-ne0) → let parts = c in
+    FrontGiven (class_of (word parts.before.before.before)) parts.parts-written.result parts.parts-written.new.1.0
 written c =
-    let parts = c.before.before.before in
-    parts-of-class degree_limit (omega arith) (word parts) _ _ parts.parts2.ensures c.if1.false
+    let parts = c in
+    parts-of-class degree_limit (omega arith) (word parts.before.before.before) _ _ parts.parts-written.ensures c.if-written-ne0.false
 
-array-share-prefix-parts : tie.Need-array-share-prefix-parts
+array-share-prefix-parts : tie.Need-slice_bounds-parts-end-2
 array-share-prefix-parts c = (written c).inside
 
-slice-aggregate-word : tie.Need-slice-aggregate-word
+slice-aggregate-word : tie.Need-slice_bounds-word-end
 slice-aggregate-word c = sym (length-take-le _ _ (written c.before).inside)
 
-word-requires : tie.Need-word-requires
+word-requires : tie.Need-word-shape-requires
 word-requires c κs = search rules
 
-shape-rank-requires : tie.Need-shape-rank-requires
+shape-rank-requires : tie.Need-shape_rank-requires
 shape-rank-requires c κs = search rules
 
-returns-2 : tie.Need-returns-2
+returns-2 : tie.Need-returns
 returns-2 c =
-    let left = c.before.before.before in
-    let parts = left.before.before.before in
-    class-ranked degree_limit (omega arith) (word parts) _ _ parts.parts2.ensures left.if1.false _
-    c.before.word.ensures _ c.shape-rank.ensures
+    let left = c in
+    let parts = left in
+    class-ranked degree_limit (omega arith) (word parts.before.before.before.before.before.before) _ _ parts.parts-written.ensures left.if-written-ne0.false _
+    c.word-shape.ensures _ c.shape_rank.ensures
 
-pub class-rank-spec : {M : Type 1} → statement M
-class-rank-spec =
+pub class_rank_spec : {M : Type 1} → statement M
+class_rank_spec =
     tie.close
     (tie.spec
     slice-aggregate-parts

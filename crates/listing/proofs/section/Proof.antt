@@ -23,28 +23,28 @@ unfolding partition_counts
 start-kept n h =
     tabled-at (λ n. total (take n partition_counts)) starts n refl (omega arith) ∙ sym (start-summed n (omega arith))
 
-returns : tie.Need-returns
+returns : tie.Need-returns-then-degree-gt-LIMIT
 unfolding section_of
-returns c = rw (lt-ltb degree_limit c.before.args.degree (omega arith))
+returns c = rw (lt-ltb degree_limit c.args.degree (omega arith))
 
-mul-t5 : tie.Need-overflow-mul-t5
+mul-t5 : tie.Need-offset_bounds-n
 mul-t5 c = search rules
 
-array-read-t8 : tie.Need-array-read-t8
+array-read-t8 : tie.Need-bounds-n
 array-read-t8 c = search rules
 
-mul-t10 : tie.Need-overflow-mul-t10
+mul-t10 : tie.Need-offset_bounds-n-2
 mul-t10 c = search rules
 
-array-read-t13 : tie.Need-array-read-t13
+array-read-t13 : tie.Need-bounds-n-2
 array-read-t13 c = search rules
 
-returns-2 : tie.Need-returns-2
+returns-2 : tie.Need-returns
 unfolding section_of partition_counts
 returns-2 c =
-    let n = c.before.args.degree in
+    let n = c.args.degree in
     rw (le-ltb degree_limit n (omega arith))
     (ap₂ (section_answer 0) (start-kept n (omega arith)) (sym (count_kept n (omega arith))))
 
-pub section-spec : {M : Type 1} → statement M
-section-spec = tie.close (tie.spec returns mul-t5 array-read-t8 mul-t10 array-read-t13 returns-2)
+pub section_spec : {M : Type 1} → statement M
+section_spec = tie.close (tie.spec returns mul-t5 array-read-t8 mul-t10 array-read-t13 returns-2)

@@ -12,43 +12,43 @@ use Rattle.listing.proofs.Ranks.{shape-rank-refused, shape-ranked}
 use Rattle.listing.proofs.shape_rank.Statement.{statement}
 use Rattle.listing.proofs.shape_rank.Tie as tie
 
-read-requires : tie.Need-read-requires
+read-requires : tie.Need-read-shape-requires
 read-requires c κs = search rules
 
-returns : tie.Need-returns
+returns : tie.Need-returns-then-shape-ne0
 returns c =
-    let a = c.before.before in
-    shape-rank-refused degree_limit a.before.args.word a.read.result a.read.ensures c.if1.true
+    let a = c in
+    shape-rank-refused degree_limit a.args.word a.read-shape.result a.read-shape.ensures c.if-shape-ne0.true
 
 -- a word that was not refused
-passed : (c : tie.Else1) → let a = c.before.before in ShapeRead degree_limit a.before.args.word a.read.result
+passed : (c : tie.Else-shape-ne0) → let a = c in ShapeRead degree_limit a.args.word a.read-shape.result
 passed c =
-    let a = c.before.before in
-    shape-read degree_limit a.before.args.word a.read.result a.read.ensures c.if1.false
+    let a = c in
+    shape-read degree_limit a.args.word a.read-shape.result a.read-shape.ensures c.if-shape-ne0.false
 
-shape-words-requires : tie.Need-shape-words-requires
+shape-words-requires : tie.Need-shape_words-requires
 shape-words-requires c κs = search rules
 
-slice-aggregate-search : tie.Need-slice-aggregate-search
+slice-aggregate-search : tie.Need-slice_bounds-search-end
 slice-aggregate-search c = search rules
 
-search-requires : tie.Need-search-requires
+search-requires : tie.Need-search-rank-requires
 search-requires c κs =
     let s = passed c.before.before in
-    (c.before.shape-words.ensures, read-within s, s.degree ∙ sym (ap degree (read-shape s)))
+    (c.shape_words.ensures, read-within s, s.degree ∙ sym (ap degree (read-shape s)))
 
-cast-t9 : tie.Need-overflow-cast-t9
+cast-t9 : tie.Need-overflow_cast-result
 cast-t9 c = search rules
 
-returns-2 : tie.Need-returns-2
+returns-2 : tie.Need-returns
 returns-2 c =
-    let else1 = c.before.before.before in
-    let a = else1.before.before in
-    shape-ranked degree_limit a.before.args.word a.read.result a.read.ensures else1.if1.false _
-    (to_z_pos w64 (omega arith) ∙ ap pos c.search.ensures)
+    let else1 = c in
+    let a = else1 in
+    shape-ranked degree_limit a.args.word a.read-shape.result a.read-shape.ensures else1.if-shape-ne0.false _
+    (to_z_pos w64 (omega arith) ∙ ap pos c.search-rank.ensures)
 
-pub shape-rank-spec : {M : Type 1} → statement M
-shape-rank-spec =
+pub shape_rank_spec : {M : Type 1} → statement M
+shape_rank_spec =
     tie.close
     (tie.spec
     read-requires

@@ -9,5 +9,5 @@ returns : tie.Need-returns
 unfolding words_below listing partitions word
 returns c = refl
 
-pub shape-words-spec : {M : Type 1} → statement M
-shape-words-spec = tie.close (tie.spec returns)
+pub shape_words_spec : {M : Type 1} → statement M
+shape_words_spec = tie.close (tie.spec returns)

@@ -7,12 +7,12 @@ use Rattle.oldlists.proofs.from_old.Tie as tie
 moved-requires : tie.Need-moved-requires
 moved-requires c κs = search rules
 
-same_length : tie.Need-same-length
+same_length : tie.Need-shape_of-new
 same_length c = search rules
 
 returns : tie.Need-returns
 unfolding shapes_from_old
-returns c = c.before.before.moved.ensures
+returns c = c.moved.ensures
 
-pub from-old-spec : {M : Type 1} → statement M
-from-old-spec = tie.close (tie.spec moved-requires same_length returns)
+pub from_old_spec : {M : Type 1} → statement M
+from_old_spec = tie.close (tie.spec moved-requires same_length returns)

@@ -7,12 +7,12 @@ use Rattle.oldlists.proofs.to_old.Tie as tie
 moved-requires : tie.Need-moved-requires
 moved-requires c κs = search rules
 
-same_length : tie.Need-same-length
+same_length : tie.Need-shape_of-old
 same_length c = search rules
 
 returns : tie.Need-returns
 unfolding shapes_to_old
-returns c = c.before.before.moved.ensures
+returns c = c.moved.ensures
 
-pub to-old-spec : {M : Type 1} → statement M
-to-old-spec = tie.close (tie.spec moved-requires same_length returns)
+pub to_old_spec : {M : Type 1} → statement M
+to_old_spec = tie.close (tie.spec moved-requires same_length returns)

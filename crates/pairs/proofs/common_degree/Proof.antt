@@ -7,79 +7,79 @@ use Rattle.pairs.proofs.WordPairs.{Asked, refused-1, refused-3, refused-2, refus
 use Rattle.pairs.proofs.common_degree.Statement.{statement}
 use Rattle.pairs.proofs.common_degree.Tie as tie
 
-asked : (c : tie.After-degree) → let a = c.before.before.args in
-    Asked degree_limit a.shape a.class c.before.read.result c.degree.result
-asked c = record { of-shape = c.before.read.ensures; of-class = c.degree.ensures }
+asked : (c : tie.After-degree-of_class) → let a = c.args in
+    Asked degree_limit a.shape a.class c.read-of_shape.result c.degree-of_class.result
+asked c = record { of-shape = c.read-of_shape.ensures; of-class = c.degree-of_class.ensures }
 
 -- what was asked for, seen from the third test and the fourth
-abbrev degrees3 : tie.Else3 → tie.After-degree
+abbrev degrees3 : tie.Else-of_shape-ne0 → tie.After-degree-of_class
 degrees3 c = c.before.before.before.before.before.before
 
-abbrev degrees4 : tie.Else4 → tie.After-degree
+abbrev degrees4 : tie.Else-of_class-ne0 → tie.After-degree-of_class
 degrees4 c = degrees3 c.before.before
 
-read-requires : tie.Need-read-requires
+read-requires : tie.Need-read-of_shape-requires
 read-requires c κs = search rules
 
-degree-requires : tie.Need-degree-requires
+degree-requires : tie.Need-degree-of_class-requires
 degree-requires c κs = search rules
 
 nothing-requires : tie.Need-nothing-requires
 nothing-requires c κs = search rules
 
-returns : tie.Need-returns
-returns c = c.nothing.ensures ∙ refused-1 (asked c.before.before.before) c.before.if1.true
+returns : tie.Need-returns-then-of_shape-eq1
+returns c = c.nothing.ensures ∙ refused-1 (asked c.before.before.before) c.if-of_shape-eq1.true
 
-nothing-requires-2 : tie.Need-nothing-requires-2
+nothing-requires-2 : tie.Need-nothing-requires-then-of_class-eq3
 nothing-requires-2 c κs = search rules
 
-returns-2 : tie.Need-returns-2
+returns-2 : tie.Need-returns-then-of_class-eq3
 returns-2 c =
-    let then2 = c.before in
-    let else1 = then2.before.before in
-    c.nothing2.ensures ∙ refused-3 (asked else1.before.before) else1.if1.false then2.if2.true
+    let then2 = c in
+    let else1 = then2 in
+    c.nothing-then-of_class-eq3.ensures ∙ refused-3 (asked else1.before.before.before.before.before) else1.if-of_shape-eq1.false then2.if-of_class-eq3.true
 
-nothing-requires-3 : tie.Need-nothing-requires-3
+nothing-requires-3 : tie.Need-nothing-requires-then-of_shape-ne0
 nothing-requires-3 c κs = search rules
 
-returns-3 : tie.Need-returns-3
+returns-3 : tie.Need-returns-then-of_shape-ne0
 returns-3 c =
-    let then3 = c.before in
-    let else2 = then3.before.before in
-    let else1 = else2.before.before in
-    c.nothing3.ensures
-    ∙ refused-2 (asked else1.before.before) else1.if1.false else2.if2.false then3.if3.true
+    let then3 = c in
+    let else2 = then3 in
+    let else1 = else2 in
+    c.nothing-then-of_shape-ne0.ensures
+    ∙ refused-2 (asked else1.before.before.before.before.before.before.before) else1.if-of_shape-eq1.false else2.if-of_class-eq3.false then3.if-of_shape-ne0.true
 
-nothing-requires-4 : tie.Need-nothing-requires-4
+nothing-requires-4 : tie.Need-nothing-requires-then-of_class-ne0
 nothing-requires-4 c κs = search rules
 
-returns-4 : tie.Need-returns-4
+returns-4 : tie.Need-returns-then-of_class-ne0
 returns-4 c =
-    let then4 = c.before in
-    let else3 = then4.before.before in
-    c.nothing4.ensures
-    ∙ refused-4 (asked (degrees3 else3)) else3.if3.false else3.before.before.if2.false then4.if4.true
+    let then4 = c in
+    let else3 = then4 in
+    c.nothing-then-of_class-ne0.ensures
+    ∙ refused-4 (asked (degrees3 else3.before.before.before)) else3.if-of_shape-ne0.false else3.if-of_class-eq3.false then4.if-of_class-ne0.true
 
-cast-if5 : tie.Need-overflow-cast-if5
+cast-if5 : tie.Need-overflow_cast-of_shape
 cast-if5 c = search rules
 
-nothing-requires-5 : tie.Need-nothing-requires-5
+nothing-requires-5 : tie.Need-nothing-requires-then-of_shape-of_class
 nothing-requires-5 c κs = search rules
 
-returns-5 : tie.Need-returns-5
+returns-5 : tie.Need-returns-then-of_shape-of_class
 returns-5 c =
-    let then5 = c.before in
-    let four = then5.before.before.before.before in
-    c.nothing5.ensures
-    ∙ refused-5 (asked (degrees4 four)) four.before.before.if3.false four.if4.false then5.if5.true
+    let then5 = c in
+    let four = then5 in
+    c.nothing-then-of_shape-of_class.ensures
+    ∙ refused-5 (asked (degrees4 four.before.before.before.before.before)) four.if-of_shape-ne0.false four.if-of_class-ne0.false then5.if-of_shape-of_class.true
 
-returns-6 : tie.Need-returns-6
+returns-6 : tie.Need-returns
 returns-6 c =
-    let four = c.before.before.before.before in
-    agrees (asked (degrees4 four)) four.before.before.if3.false four.if4.false c.if5.false
+    let four = c in
+    agrees (asked (degrees4 four.before.before.before.before)) four.if-of_shape-ne0.false four.if-of_class-ne0.false c.if-of_shape-of_class.false
 
-pub common-degree-spec : {M : Type 1} → statement M
-common-degree-spec =
+pub common_degree_spec : {M : Type 1} → statement M
+common_degree_spec =
     tie.close
     (tie.spec
     read-requires

@@ -15,12 +15,12 @@ use Rattle.clearing.proofs.idle.coefficients.Tie as tie
 abbrev is_zero : ℤ → Bool
 is_zero z = nat_abs z =? 0
 
-abbrev invariant-loop : tie.invariant-loop
-invariant-loop coefficients i₀ i =
+abbrev invariant-loop-i : tie.invariant-loop-i
+invariant-loop-i coefficients i₀ i =
     (i ≤ length coefficients) × (every is_zero (drop i coefficients) ≡ every is_zero coefficients)
 
-abbrev decreases-loop : tie.decreases-loop
-decreases-loop coefficients i₀ i = length coefficients - i
+abbrev decreases-loop-i : tie.decreases-loop-i
+decreases-loop-i coefficients i₀ i = length coefficients - i
 
 -- ---- one coefficient, by its bits
 module _ (zs : List ℤ) (i : ℕ) (there : i < length zs) (fits : SFits w64 (get_or zs i (pos 0))) where
@@ -37,81 +37,81 @@ module _ (zs : List ℤ) (i : ℕ) (there : i < length zs) (fits : SFits w64 (ge
   last end = sym (zero_bits _ fits) ∙ last_one is_zero (pos 0) zs i there end
 
 -- ---- the loop
-loop-holds : tie.Need-loop-init invariant-loop decreases-loop
+loop-holds : tie.Need-loop-i-init invariant-loop-i decreases-loop-i
 loop-holds c = (omega arith, refl)
 
-add-loop : tie.Need-overflow-add-loop invariant-loop decreases-loop
+add-loop : tie.Need-overflow_add-i invariant-loop-i decreases-loop-i
 add-loop c = search rules
 
-mul-if1 : tie.Need-overflow-mul-if1 invariant-loop decreases-loop
+mul-if1 : tie.Need-offset_bounds-coefficients-i invariant-loop-i decreases-loop-i
 mul-if1 c = search rules
 
-shared-slice-copy-out-if1 : tie.Need-shared-slice-copy-out-if1 invariant-loop decreases-loop
+shared-slice-copy-out-if1 : tie.Need-bounds-coefficients-i invariant-loop-i decreases-loop-i
 shared-slice-copy-out-if1 c = search rules
 
-returns : tie.Need-returns invariant-loop decreases-loop
+returns : tie.Need-returns-then-coefficients-i-ne0 invariant-loop-i decreases-loop-i
 returns c =
-    let turn = c.before.before in
-    let l = turn.before.loop in
-    sym (not-zero _ l.i (omega (arith, turn.loop-test.true)) (search rules) c.if1.true) ∙ l.invariant.1
+    let turn = c in
+    let l = turn.loop-i in
+    sym (not-zero _ l.i (omega (arith, turn.loop-i-test.true)) (search rules) c.if-coefficients-i-ne0.true) ∙ l.invariant.1
 
-add-if2 : tie.Need-overflow-add-if2 invariant-loop decreases-loop
+add-if2 : tie.Need-overflow_add-i-in-loop-i invariant-loop-i decreases-loop-i
 add-if2 c = search rules
 
-mul-if2 : tie.Need-overflow-mul-if2 invariant-loop decreases-loop
+mul-if2 : tie.Need-offset_bounds-coefficients-i-in-loop-i invariant-loop-i decreases-loop-i
 mul-if2 c = search rules
 
-shared-slice-copy-out-if2 : tie.Need-shared-slice-copy-out-if2 invariant-loop decreases-loop
+shared-slice-copy-out-if2 : tie.Need-bounds-coefficients-i-in-loop-i invariant-loop-i decreases-loop-i
 shared-slice-copy-out-if2 c = search rules
 
-returns-2 : tie.Need-returns-2 invariant-loop decreases-loop
+returns-2 : tie.Need-returns-then-coefficients-i-ne0-2 invariant-loop-i decreases-loop-i
 returns-2 c =
-    let else1 = c.before.before in
-    let turn = else1.before.before in
-    let l = turn.before.loop in
-    sym (not-zero _ (l.i + 1) turn.loop-test.true (search rules) c.if2.true)
-    ∙ zero-next _ l.i (omega (arith, turn.loop-test.true)) (search rules) else1.if1.false
+    let else1 = c in
+    let turn = else1 in
+    let l = turn.loop-i in
+    sym (not-zero _ (l.i + 1) turn.loop-i-test.true (search rules) c.if-coefficients-i-ne0-2.true)
+    ∙ zero-next _ l.i (omega (arith, turn.loop-i-test.true)) (search rules) else1.if-coefficients-i-ne0.false
     ∙ l.invariant.1
 
-add-i : tie.Need-overflow-add-i invariant-loop decreases-loop
+add-i : tie.Need-overflow_add-i-in-loop-i-2 invariant-loop-i decreases-loop-i
 add-i c = search rules
 
-loop-less : tie.Need-loop-smaller invariant-loop decreases-loop
+loop-less : tie.Need-loop-i-smaller invariant-loop-i decreases-loop-i
 loop-less c = search rules
 
-loop-again : tie.Need-loop-preserved invariant-loop decreases-loop
+loop-again : tie.Need-loop-i-preserved invariant-loop-i decreases-loop-i
 loop-again c =
-    let else1 = c.before.before in
-    let turn = else1.before.before in
-    let l = turn.before.loop in
+    let else1 = c in
+    let turn = else1 in
+    let l = turn.loop-i in
     let two : l.i + 2 ≡ l.i + 1 + 1 = omega arith in (
-      omega (arith, turn.loop-test.true),
+      omega (arith, turn.loop-i-test.true),
       rw two
-          (zero-next _ (l.i + 1) turn.loop-test.true (search rules) c.if2.false
-          ∙ zero-next _ l.i (omega (arith, turn.loop-test.true)) (search rules) else1.if1.false
+          (zero-next _ (l.i + 1) turn.loop-i-test.true (search rules) c.if-coefficients-i-ne0-2.false
+          ∙ zero-next _ l.i (omega (arith, turn.loop-i-test.true)) (search rules) else1.if-coefficients-i-ne0.false
           ∙ l.invariant.1),
     )
 
-mul-result : tie.Need-overflow-mul-result invariant-loop decreases-loop
+mul-result : tie.Need-offset_bounds-coefficients-i-then-i-coefficients invariant-loop-i decreases-loop-i
 mul-result c = search rules
 
-shared-slice-copy-out-result : tie.Need-shared-slice-copy-out-result invariant-loop decreases-loop
+shared-slice-copy-out-result : tie.Need-bounds-coefficients-i-then-i-coefficients invariant-loop-i decreases-loop-i
 shared-slice-copy-out-result c = search rules
 
-returns-3 : tie.Need-returns-3 invariant-loop decreases-loop
+returns-3 : tie.Need-returns-then-i-coefficients invariant-loop-i decreases-loop-i
 returns-3 c =
-    let end = c.before.before in
-    last _ _ c.before.if3.true (search rules) (omega (arith, end.loop-test.false)) ∙ end.before.loop.invariant.1
+    let end = c in
+    last _ _ c.if-i-coefficients.true (search rules) (omega (arith, end.loop-i-test.false)) ∙ end.loop-i.invariant.1
 
-returns-4 : tie.Need-returns-4 invariant-loop decreases-loop
-returns-4 c = sym (none_left is_zero (pos 0) _ _ c.if3.false) ∙ c.before.before.loop.invariant.1
+returns-4 : tie.Need-returns invariant-loop-i decreases-loop-i
+returns-4 c = sym (none_left is_zero (pos 0) _ _ c.if-i-coefficients.false) ∙ c.loop-i.invariant.1
 
-pub coefficients-spec : {M : Type 1} → statement M
-coefficients-spec =
+pub coefficients_spec : {M : Type 1} → statement M
+coefficients_spec =
     tie.close
     (tie.spec
-    invariant-loop
-    decreases-loop
+    invariant-loop-i
+    decreases-loop-i
     loop-holds
     add-loop
     mul-if1

@@ -8,87 +8,87 @@ use Rattle.clearing.proofs.Zeros.{not-zero, zero-next, last_word, no-word-left}
 use Rattle.clearing.proofs.idle.words.Statement.{statement}
 use Rattle.clearing.proofs.idle.words.Tie as tie
 
-abbrev invariant-loop : tie.invariant-loop
-invariant-loop words i₀ i = (i ≤ length words) × (every (◌=? 0) (drop i words) ≡ every (◌=? 0) words)
+abbrev invariant-loop-i : tie.invariant-loop-i
+invariant-loop-i words i₀ i = (i ≤ length words) × (every (◌=? 0) (drop i words) ≡ every (◌=? 0) words)
 
-abbrev decreases-loop : tie.decreases-loop
-decreases-loop words i₀ i = length words - i
+abbrev decreases-loop-i : tie.decreases-loop-i
+decreases-loop-i words i₀ i = length words - i
 
-loop-holds : tie.Need-loop-init invariant-loop decreases-loop
+loop-holds : tie.Need-loop-i-init invariant-loop-i decreases-loop-i
 loop-holds c = (omega arith, refl)
 
-add-loop : tie.Need-overflow-add-loop invariant-loop decreases-loop
+add-loop : tie.Need-overflow_add-i invariant-loop-i decreases-loop-i
 add-loop c = search rules
 
-mul-if1 : tie.Need-overflow-mul-if1 invariant-loop decreases-loop
+mul-if1 : tie.Need-offset_bounds-words-i invariant-loop-i decreases-loop-i
 mul-if1 c = search rules
 
-shared-slice-read-if1 : tie.Need-shared-slice-read-if1 invariant-loop decreases-loop
+shared-slice-read-if1 : tie.Need-bounds-words-i invariant-loop-i decreases-loop-i
 shared-slice-read-if1 c = search rules
 
-returns : tie.Need-returns invariant-loop decreases-loop
+returns : tie.Need-returns-then-words-i-ne0 invariant-loop-i decreases-loop-i
 returns c =
-    let turn = c.before.before in
-    let l = turn.before.loop in
-    sym (not-zero _ l.i (omega (arith, turn.loop-test.true)) c.if1.true) ∙ l.invariant.1
+    let turn = c in
+    let l = turn.loop-i in
+    sym (not-zero _ l.i (omega (arith, turn.loop-i-test.true)) c.if-words-i-ne0.true) ∙ l.invariant.1
 
-add-if2 : tie.Need-overflow-add-if2 invariant-loop decreases-loop
+add-if2 : tie.Need-overflow_add-i-in-loop-i invariant-loop-i decreases-loop-i
 add-if2 c = search rules
 
-mul-if2 : tie.Need-overflow-mul-if2 invariant-loop decreases-loop
+mul-if2 : tie.Need-offset_bounds-words-i-in-loop-i invariant-loop-i decreases-loop-i
 mul-if2 c = search rules
 
-shared-slice-read-if2 : tie.Need-shared-slice-read-if2 invariant-loop decreases-loop
+shared-slice-read-if2 : tie.Need-bounds-words-i-in-loop-i invariant-loop-i decreases-loop-i
 shared-slice-read-if2 c = search rules
 
-returns-2 : tie.Need-returns-2 invariant-loop decreases-loop
+returns-2 : tie.Need-returns-then-words-i-ne0-2 invariant-loop-i decreases-loop-i
 returns-2 c =
-    let else1 = c.before.before in
-    let turn = else1.before.before in
-    let l = turn.before.loop in
-    sym (not-zero _ (l.i + 1) turn.loop-test.true c.if2.true)
-    ∙ zero-next _ l.i (omega (arith, turn.loop-test.true)) else1.if1.false
+    let else1 = c in
+    let turn = else1 in
+    let l = turn.loop-i in
+    sym (not-zero _ (l.i + 1) turn.loop-i-test.true c.if-words-i-ne0-2.true)
+    ∙ zero-next _ l.i (omega (arith, turn.loop-i-test.true)) else1.if-words-i-ne0.false
     ∙ l.invariant.1
 
-add-i : tie.Need-overflow-add-i invariant-loop decreases-loop
+add-i : tie.Need-overflow_add-i-in-loop-i-2 invariant-loop-i decreases-loop-i
 add-i c = search rules
 
-loop-less : tie.Need-loop-smaller invariant-loop decreases-loop
+loop-less : tie.Need-loop-i-smaller invariant-loop-i decreases-loop-i
 loop-less c = search rules
 
-loop-again : tie.Need-loop-preserved invariant-loop decreases-loop
+loop-again : tie.Need-loop-i-preserved invariant-loop-i decreases-loop-i
 loop-again c =
-    let else1 = c.before.before in
-    let turn = else1.before.before in
-    let l = turn.before.loop in
+    let else1 = c in
+    let turn = else1 in
+    let l = turn.loop-i in
     let two : l.i + 2 ≡ l.i + 1 + 1 = omega arith in (
-      omega (arith, turn.loop-test.true),
+      omega (arith, turn.loop-i-test.true),
       rw two
-          (zero-next _ (l.i + 1) turn.loop-test.true c.if2.false
-          ∙ zero-next _ l.i (omega (arith, turn.loop-test.true)) else1.if1.false
+          (zero-next _ (l.i + 1) turn.loop-i-test.true c.if-words-i-ne0-2.false
+          ∙ zero-next _ l.i (omega (arith, turn.loop-i-test.true)) else1.if-words-i-ne0.false
           ∙ l.invariant.1),
     )
 
-mul-result : tie.Need-overflow-mul-result invariant-loop decreases-loop
+mul-result : tie.Need-offset_bounds-words-i-then-i-words invariant-loop-i decreases-loop-i
 mul-result c = search rules
 
-shared-slice-read-result : tie.Need-shared-slice-read-result invariant-loop decreases-loop
+shared-slice-read-result : tie.Need-bounds-words-i-then-i-words invariant-loop-i decreases-loop-i
 shared-slice-read-result c = search rules
 
-returns-3 : tie.Need-returns-3 invariant-loop decreases-loop
+returns-3 : tie.Need-returns-then-i-words invariant-loop-i decreases-loop-i
 returns-3 c =
-    let end = c.before.before in
-    last_word _ _ c.before.if3.true (omega (arith, end.loop-test.false)) ∙ end.before.loop.invariant.1
+    let end = c in
+    last_word _ _ c.if-i-words.true (omega (arith, end.loop-i-test.false)) ∙ end.loop-i.invariant.1
 
-returns-4 : tie.Need-returns-4 invariant-loop decreases-loop
-returns-4 c = sym (no-word-left _ _ c.if3.false) ∙ c.before.before.loop.invariant.1
+returns-4 : tie.Need-returns invariant-loop-i decreases-loop-i
+returns-4 c = sym (no-word-left _ _ c.if-i-words.false) ∙ c.loop-i.invariant.1
 
-pub words-spec : {M : Type 1} → statement M
-words-spec =
+pub words_spec : {M : Type 1} → statement M
+words_spec =
     tie.close
     (tie.spec
-    invariant-loop
-    decreases-loop
+    invariant-loop-i
+    decreases-loop-i
     loop-holds
     add-loop
     mul-if1

@@ -14,12 +14,12 @@ use Rattle.words.proofs.PartLists.{next-left, none_left}
 use Rattle.oldlists.proofs.forms.first_bad.Statement.{statement}
 use Rattle.oldlists.proofs.forms.first_bad.Tie as tie
 
-abbrev invariant-loop : tie.invariant-loop
-invariant-loop words old i₀ i =
+abbrev invariant-loop-i : tie.invariant-loop-i
+invariant-loop-i words old i₀ i =
     first_bad (form_checks degree_limit old) 0 words ≡ first_bad (form_checks degree_limit old) i (drop i words)
 
-abbrev decreases-loop : tie.decreases-loop
-decreases-loop words old i₀ i = length words - i
+abbrev decreases-loop-i : tie.decreases-loop-i
+decreases-loop-i words old i₀ i = length words - i
 
 -- the word at place i, behind which those from i + 1 on stand
 next : (words : List ℕ) (old : Bool) (i k : ℕ) → i < length words
@@ -29,55 +29,55 @@ next : (words : List ℕ) (old : Bool) (i k : ℕ) → i < length words
 next words old i k h e =
     rw (e, add-one) (ap (first_bad (form_checks degree_limit old) i) (rw add-one at (next-left words i h)))
 
-loop-holds : tie.Need-loop-init invariant-loop decreases-loop
+loop-holds : tie.Need-loop-i-init invariant-loop-i decreases-loop-i
 loop-holds c = refl
 
-mul-refusal : tie.Need-overflow-mul-refusal invariant-loop decreases-loop
+mul-refusal : tie.Need-offset_bounds-words-i invariant-loop-i decreases-loop-i
 mul-refusal c = search rules
 
-shared-slice-read-refusal : tie.Need-shared-slice-read-refusal invariant-loop decreases-loop
+shared-slice-read-refusal : tie.Need-bounds-words-i invariant-loop-i decreases-loop-i
 shared-slice-read-refusal c = search rules
 
-refusal-requires : tie.Need-refusal-requires invariant-loop decreases-loop
+refusal-requires : tie.Need-refusal-refused-requires invariant-loop-i decreases-loop-i
 refusal-requires c κs = search rules
 
-returns : tie.Need-returns invariant-loop decreases-loop
+returns : tie.Need-returns-then-refused-ne0 invariant-loop-i decreases-loop-i
 returns c =
-    let judged = c.before in
-    let l = judged.before.before.before in
-    let k : ℕ = judged.refusal.result in
-    let old : Bool = l.before.before.args.old in
-    let n = next _ old _ k judged.before.before.loop-test.true judged.refusal.ensures in
-    sym (l.loop.invariant ∙ n ∙ or-refused (λ k. list_answer k l.loop.i) _ k c.if1.true)
+    let judged = c in
+    let l = judged in
+    let k : ℕ = judged.refusal-refused.result in
+    let old : Bool = l.args.old in
+    let n = next _ old _ k judged.loop-i-test.true judged.refusal-refused.ensures in
+    sym (l.loop-i.invariant ∙ n ∙ or-refused (λ k. list_answer k l.loop-i.i) _ k c.if-refused-ne0.true)
 
-add-i : tie.Need-overflow-add-i invariant-loop decreases-loop
+add-i : tie.Need-overflow_add-i invariant-loop-i decreases-loop-i
 add-i c = search rules
 
-loop-less : tie.Need-loop-smaller invariant-loop decreases-loop
-loop-less c = omega (arith, c.before.before.before.loop-test.true)
+loop-less : tie.Need-loop-i-smaller invariant-loop-i decreases-loop-i
+loop-less c = omega (arith, c.loop-i-test.true)
 
-loop-again : tie.Need-loop-preserved invariant-loop decreases-loop
+loop-again : tie.Need-loop-i-preserved invariant-loop-i decreases-loop-i
 loop-again c =
-    let judged = c.before in
-    let l = judged.before.before.before in
-    let k : ℕ = judged.refusal.result in
-    let old : Bool = l.before.before.args.old in
-    let n = next _ old _ k judged.before.before.loop-test.true judged.refusal.ensures in
-    l.loop.invariant ∙ n ∙ or-given (λ k. list_answer k l.loop.i) _ k c.if1.false
+    let judged = c in
+    let l = judged in
+    let k : ℕ = judged.refusal-refused.result in
+    let old : Bool = l.args.old in
+    let n = next _ old _ k judged.loop-i-test.true judged.refusal-refused.ensures in
+    l.loop-i.invariant ∙ n ∙ or-given (λ k. list_answer k l.loop-i.i) _ k c.if-refused-ne0.false
 
-returns-2 : tie.Need-returns-2 invariant-loop decreases-loop
+returns-2 : tie.Need-returns invariant-loop-i decreases-loop-i
 returns-2 c =
-    let l = c.before.loop in
-    let args = c.before.before.before.args in
-    let none = none_left args.words.now l.i c.loop-test.false in
+    let l = c.loop-i in
+    let args = c.args in
+    let none = none_left args.words.now l.i c.loop-i-test.false in
     sym (l.invariant ∙ ap (first_bad (form_checks degree_limit args.old) l.i) none)
 
-pub first-bad-spec : {M : Type 1} → statement M
-first-bad-spec =
+pub first_bad_spec : {M : Type 1} → statement M
+first_bad_spec =
     tie.close
     (tie.spec
-    invariant-loop
-    decreases-loop
+    invariant-loop-i
+    decreases-loop-i
     loop-holds
     mul-refusal
     shared-slice-read-refusal

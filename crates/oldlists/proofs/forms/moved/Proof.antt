@@ -13,55 +13,55 @@ use Rattle.oldlists.proofs.MovedLists.{lengths-refused, word-refused, words-move
 use Rattle.oldlists.proofs.forms.moved.Statement.{statement}
 use Rattle.oldlists.proofs.forms.moved.Tie as tie
 
-abbrev given : tie.After-first-bad → List ℕ
-given c = c.before.before.before.before.before.args.given.now
+abbrev given : tie.After-first_bad-answer → List ℕ
+given c = c.args.given.now
 
-abbrev lent : tie.After-first-bad → List ℕ
-lent c = c.before.before.before.before.before.args.lent.now
+abbrev lent : tie.After-first_bad-answer → List ℕ
+lent c = c.args.lent.now
 
-abbrev old : tie.After-first-bad → Bool
-old c = c.before.before.before.before.before.args.old
+abbrev old : tie.After-first_bad-answer → Bool
+old c = c.args.old
 
 -- where the words are judged, the lengths are as they must be
-fits : (c : tie.After-first-bad) → first_of (no-20 (given c) (lent c) ∷ []) ≡ 0
-fits c = list-short (given c) (lent c) c.before.before.if1.false c.before.if2.false
+fits : (c : tie.After-first_bad-answer) → first_of (no-20 (given c) (lent c) ∷ []) ≡ 0
+fits c = list-short (given c) (lent c) c.if1.false c.if-given-gt-LIST_LIMIT.false
 
-returns : tie.Need-returns
+returns : tie.Need-returns-then-given-lent
 returns c =
-    let a = c.before.before.before.args in
+    let a = c.args in
     let words : List ℕ = a.given.now in
-    let to : List ℕ = a.lent.now in
+    let to : List ℕ = a.lent-1.now in
     lengths-refused (form_checks degree_limit a.old) (other_form a.old) words to (⊎_elim
     (λ w. lengths_differ words to w.taken)
     (λ w. list-long words to w.0.left w.1.taken)
     c.if1.branch)
 
-first-bad-requires : tie.Need-first-bad-requires
+first-bad-requires : tie.Need-first_bad-answer-requires
 first-bad-requires c κs = search rules
 
-returns-2 : tie.Need-returns-2
+returns-2 : tie.Need-returns-then-answer-ne0
 returns-2 c =
-    let j = c.before.before in
-    word-refused (form_checks degree_limit (old j)) (other_form (old j)) (given j) (lent j) (fits j) _
-    j.first-bad.ensures c.if3.true
+    let j = c in
+    word-refused (form_checks degree_limit (old j.before.before)) (other_form (old j.before.before)) (given j.before.before) (lent j.before.before) (fits j.before.before) _
+    j.first_bad-answer.ensures c.if-answer-ne0.true
 
 write-requires : tie.Need-write-requires
 write-requires c κs =
-    let j = c.before.before.before in
-    let none = sym (ap (λ (r : ListAnswer). r.refused) j.first-bad.ensures) ∙ c.before.if3.false in
-    (j.before.before.if1.false, none-bad (form_checks degree_limit (old j)) 0 (given j) none)
+    let j = c in
+    let none = sym (ap (λ (r : ListAnswer). r.refused) j.first_bad-answer.ensures) ∙ c.if-answer-ne0.false in
+    (j.if1.false, none-bad (form_checks degree_limit (old j.before.before.before)) 0 (given j.before.before.before) none)
 
-same_length : tie.Need-same-length
+same_length : tie.Need-shape_of-lent
 same_length c = search rules
 
-returns-3 : tie.Need-returns-3
+returns-3 : tie.Need-returns
 returns-3 c =
-    let wrote = c.before.before in
-    let passed = wrote.before.before in
-    let j = passed.before.before in
-    words-moved (form_checks degree_limit (old j)) (other_form (old j)) (given j) (lent j) (fits j) _
-    j.first-bad.ensures passed.if3.false _ wrote.write.ensures
+    let wrote = c in
+    let passed = wrote in
+    let j = passed in
+    words-moved (form_checks degree_limit (old j.before.before.before.before.before.before)) (other_form (old j.before.before.before.before.before.before)) (given j.before.before.before.before.before.before) (lent j.before.before.before.before.before.before) (fits j.before.before.before.before.before.before) _
+    j.first_bad-answer.ensures passed.if-answer-ne0.false _ wrote.write.ensures
 
-pub moved-spec : {M : Type 1} → statement M
-moved-spec =
+pub moved_spec : {M : Type 1} → statement M
+moved_spec =
     tie.close (tie.spec returns first-bad-requires returns-2 write-requires same_length returns-3)

@@ -78,42 +78,42 @@ all-taken {w} {last} {left} {bits} v e =
     rw (one_shifted 32 (left - last) bit)
     (record { fits = omega arith; bit = bit; takes = omega arith; whole = omega arith })
 
-abbrev invariant-loop : tie.invariant-loop
-invariant-loop word rest₀ at₀ last₀ left₀ bits₀ rest at last left bits =
+abbrev invariant-loop-rest : tie.invariant-loop-rest
+invariant-loop-rest word rest₀ at₀ last₀ left₀ bits₀ rest at last left bits =
     (rest < 2 ^ (31 - at)) × Taking (new_word word) last left bits (parts_left at rest)
 
-abbrev decreases-loop : tie.decreases-loop
-decreases-loop word rest₀ at₀ last₀ left₀ bits₀ rest at last left bits = rest
+abbrev decreases-loop-rest : tie.decreases-loop-rest
+decreases-loop-rest word rest₀ at₀ last₀ left₀ bits₀ rest at last left bits = rest
 
-step : (c : tie.In-loop invariant-loop decreases-loop) → NextPart c.before.loop.at c.before.loop.rest
-step c = next-part _ _ c.loop-test.true c.before.loop.invariant.0
+step : (c : tie.In-loop-rest invariant-loop-rest decreases-loop-rest) → NextPart c.loop-rest.at c.loop-rest.rest
+step c = next-part _ _ c.loop-rest-test.true c.loop-rest.invariant.0
 
-row : (c : tie.In-loop invariant-loop decreases-loop)
-    → let l = c.before.loop in
+row : (c : tie.In-loop-rest invariant-loop-rest decreases-loop-rest)
+    → let l = c.loop-rest in
     let z : ℕ = count_leading_zeros 32 l.rest in
     let r : ℕ = z - l.at in
-    ZeroTaken (new_word c.before.before.before.args.word) l.last l.left l.bits r
+    ZeroTaken (new_word c.args.word) l.last l.left l.bits r
     (1 * 2 ^ (l.left - (l.last - r) - 1) % 2 ^ 32) (parts_left z (l.rest - 1 * 2 ^ (31 - z) % 2 ^ 32))
-row c = zero-taken c.before.loop.invariant.1 (step c).reads
+row c = zero-taken c.loop-rest.invariant.1 (step c).reads
 
-end : (c : tie.After-loop invariant-loop decreases-loop)
-    → let l = c.before.loop in
-    AllTaken (new_word c.before.before.before.args.word) l.last l.left l.bits
+end : (c : tie.After-loop-rest invariant-loop-rest decreases-loop-rest)
+    → let l = c.loop-rest in
+    AllTaken (new_word c.args.word) l.last l.left l.bits
     (1 * 2 ^ (l.left - l.last) % 2 ^ 32)
 end c =
-    let l = c.before.loop in
-    all-taken l.invariant.1 (no-parts-left l.at l.rest c.loop-test.false)
+    let l = c.loop-rest in
+    all-taken l.invariant.1 (no-parts-left l.at l.rest c.loop-rest-test.false)
 
-returns : tie.Need-returns invariant-loop decreases-loop
-returns c = sym (ap new_word c.if1.true ∙ ap shape_word (parts_none 0 31) ∙ word_none 31)
+returns : tie.Need-returns-then-word-eq0 invariant-loop-rest decreases-loop-rest
+returns c = sym (ap new_word c.if-word-eq0.true ∙ ap shape_word (parts_none 0 31) ∙ word_none 31)
 
-loop-holds : tie.Need-loop-init invariant-loop decreases-loop
+loop-holds : tie.Need-loop-rest-init invariant-loop-rest decreases-loop-rest
 loop-holds c =
-    let w : ℕ = c.before.args.word in
-    let p = c.before.requires in
+    let w : ℕ = c.args.word in
+    let p = c.requires in
     let ps : Parts = class_of w in
     let fits = small-has-room ps p.good.partition (omega arith) in
-    let starts = ap first (next-part 0 w c.if1.false p.good.below).reads in
+    let starts = ap first (next-part 0 w c.if-word-eq0.false p.good.below).reads in
     let none : count_leading_zeros 32 w - first ps ≡ 0 = omega arith in
     let whole = ap (λ (k : ℕ). word 31 (replicate k true ++ shape_digits ps)) none in (
       p.good.below,
@@ -126,57 +126,57 @@ loop-holds c =
       },
     )
 
-sub_part : tie.Need-overflow-sub-part invariant-loop decreases-loop
+sub_part : tie.Need-overflow_sub-part invariant-loop-rest decreases-loop-rest
 sub_part c = omega (arith, step c)
 
-sub-left : tie.Need-overflow-sub-left invariant-loop decreases-loop
+sub-left : tie.Need-overflow_sub-left invariant-loop-rest decreases-loop-rest
 sub-left c = (row c).falls
 
-sub-left-2 : tie.Need-overflow-sub-left-2 invariant-loop decreases-loop
+sub-left-2 : tie.Need-overflow_sub-left-in-loop-rest invariant-loop-rest decreases-loop-rest
 sub-left-2 c = omega (arith, (row c).ranges)
 
-sub-left-3 : tie.Need-overflow-sub-left-3 invariant-loop decreases-loop
+sub-left-3 : tie.Need-overflow_sub-left-in-loop-rest-2 invariant-loop-rest decreases-loop-rest
 sub-left-3 c = omega (arith, (row c).ranges)
 
-shl-bits : tie.Need-overflow-shl-bits invariant-loop decreases-loop
-shl-bits c = omega (arith, c.before.loop.invariant.1.digits)
+shl-bits : tie.Need-overflow_shl-bits invariant-loop-rest decreases-loop-rest
+shl-bits c = omega (arith, c.loop-rest.invariant.1.digits)
 
-sub-bits : tie.Need-overflow-sub-bits invariant-loop decreases-loop
+sub-bits : tie.Need-overflow_sub-bits invariant-loop-rest decreases-loop-rest
 sub-bits c = (row c).takes
 
-sub-rest : tie.Need-overflow-sub-rest invariant-loop decreases-loop
+sub-rest : tie.Need-overflow_sub-rest invariant-loop-rest decreases-loop-rest
 sub-rest c = omega (arith, step c)
 
-shl-rest : tie.Need-overflow-shl-rest invariant-loop decreases-loop
+shl-rest : tie.Need-overflow_shl-rest invariant-loop-rest decreases-loop-rest
 shl-rest c = search rules
 
-sub-rest-2 : tie.Need-overflow-sub-rest-2 invariant-loop decreases-loop
+sub-rest-2 : tie.Need-overflow_sub-rest-in-loop-rest invariant-loop-rest decreases-loop-rest
 sub-rest-2 c = omega (arith, step c)
 
-loop-less : tie.Need-loop-smaller invariant-loop decreases-loop
+loop-less : tie.Need-loop-rest-smaller invariant-loop-rest decreases-loop-rest
 loop-less c = omega (arith, step c)
 
-loop-again : tie.Need-loop-preserved invariant-loop decreases-loop
+loop-again : tie.Need-loop-rest-preserved invariant-loop-rest decreases-loop-rest
 loop-again c = ((step c).left, (row c).again)
 
-sub-result : tie.Need-overflow-sub-result invariant-loop decreases-loop
+sub-result : tie.Need-overflow_sub-result invariant-loop-rest decreases-loop-rest
 sub-result c = (end c).ranges
 
-shl-result : tie.Need-overflow-shl-result invariant-loop decreases-loop
+shl-result : tie.Need-overflow_shl-result invariant-loop-rest decreases-loop-rest
 shl-result c = (end c).bit
 
-sub-result-2 : tie.Need-overflow-sub-result-2 invariant-loop decreases-loop
+sub-result-2 : tie.Need-overflow_sub-result-2 invariant-loop-rest decreases-loop-rest
 sub-result-2 c = (end c).takes
 
-returns-2 : tie.Need-returns-2 invariant-loop decreases-loop
+returns-2 : tie.Need-returns invariant-loop-rest decreases-loop-rest
 returns-2 c = (end c).whole
 
-pub new-word-spec : {M : Type 1} → statement M
-new-word-spec =
+pub new_word_spec : {M : Type 1} → statement M
+new_word_spec =
     tie.close
     (tie.spec
-    invariant-loop
-    decreases-loop
+    invariant-loop-rest
+    decreases-loop-rest
     returns
     loop-holds
     sub_part

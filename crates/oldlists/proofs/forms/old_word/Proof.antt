@@ -22,23 +22,23 @@ use Rattle.words.proofs.ClassWriting.{Writing, start_writing, PartWritten, part-
 use Rattle.oldlists.proofs.forms.old_word.Statement.{statement}
 use Rattle.oldlists.proofs.forms.old_word.Tie as tie
 
-abbrev invariant-loop : tie.invariant-loop
-invariant-loop word rest₀ at₀ length₀ left₀ bits₀ rest at length left bits =
+abbrev invariant-loop-rest : tie.invariant-loop-rest
+invariant-loop-rest word rest₀ at₀ length₀ left₀ bits₀ rest at length left bits =
     (rest < 2 ^ (31 - at)) × Writing (old_word word) left bits (rows_after length (parts_left at rest))
 
-abbrev decreases-loop : tie.decreases-loop
-decreases-loop word rest₀ at₀ length₀ left₀ bits₀ rest at length left bits = rest
+abbrev decreases-loop-rest : tie.decreases-loop-rest
+decreases-loop-rest word rest₀ at₀ length₀ left₀ bits₀ rest at length left bits = rest
 
-step : (c : tie.In-loop invariant-loop decreases-loop) → NextPart c.before.loop.at c.before.loop.rest
-step c = next-part _ _ c.loop-test.true c.before.loop.invariant.0
+step : (c : tie.In-loop-rest invariant-loop-rest decreases-loop-rest) → NextPart c.loop-rest.at c.loop-rest.rest
+step c = next-part _ _ c.loop-rest-test.true c.loop-rest.invariant.0
 
-row : (c : tie.In-loop invariant-loop decreases-loop)
-    → let l = c.before.loop in
+row : (c : tie.In-loop-rest invariant-loop-rest decreases-loop-rest)
+    → let l = c.loop-rest in
     let z : ℕ = Count.count_leading_zeros 32 l.rest in
     let r : ℕ = l.length - (z - l.at - 1) in
-    PartWritten (old_word c.before.before.before.args.word) l.left l.bits r
+    PartWritten (old_word c.args.word) l.left l.bits r
     (1 * 2 ^ (l.left - r) % 2 ^ 32) (rows_after r (parts_left z (l.rest - 1 * 2 ^ (31 - z) % 2 ^ 32)))
-row c = part-written c.before.loop.invariant.1 (ap (rows_after c.before.loop.length) (step c).reads)
+row c = part-written c.loop-rest.invariant.1 (ap (rows_after c.loop-rest.length) (step c).reads)
 
 -- the digits of a word that is not 0, complemented by two differences: b is the last one, behind which t digits stand
 record Complemented (word t b : ℕ) : Type 0 where
@@ -60,78 +60,78 @@ complemented word n h =
       rows = rw (← ones-digits 31 word h) (sym (rows_told 31 word h));
     })
 
-start : (c : tie.Else1 invariant-loop decreases-loop)
-    → let w : ℕ = c.before.args.word in
+start : (c : tie.Else-word-eq0 invariant-loop-rest decreases-loop-rest)
+    → let w : ℕ = c.args.word in
     let t : ℕ = Count.count_trailing_zeros 32 w in
     Complemented w t (1 * 2 ^ t % 2 ^ 32)
-start c = complemented _ c.if1.false (omega (arith, c.before.requires.good.below))
+start c = complemented _ c.if-word-eq0.false (omega (arith, c.requires.good.below))
 
-returns : tie.Need-returns invariant-loop decreases-loop
-returns c = sym (ap old_word c.if1.true ∙ ap class_word (rows-of-zero 31) ∙ word_none 31)
+returns : tie.Need-returns-then-word-eq0 invariant-loop-rest decreases-loop-rest
+returns c = sym (ap old_word c.if-word-eq0.true ∙ ap class_word (rows-of-zero 31) ∙ word_none 31)
 
-shl-rest : tie.Need-overflow-shl-rest invariant-loop decreases-loop
+shl-rest : tie.Need-overflow_shl-rest invariant-loop-rest decreases-loop-rest
 shl-rest c = (start c).bit
 
-sub-rest : tie.Need-overflow-sub-rest invariant-loop decreases-loop
+sub-rest : tie.Need-overflow_sub-rest invariant-loop-rest decreases-loop-rest
 sub-rest c = omega (arith, (start c).room)
 
-sub-rest-2 : tie.Need-overflow-sub-rest-2 invariant-loop decreases-loop
+sub-rest-2 : tie.Need-overflow_sub-rest-2 invariant-loop-rest decreases-loop-rest
 sub-rest-2 c = omega (arith, (start c).room)
 
-loop-holds : tie.Need-loop-init invariant-loop decreases-loop
+loop-holds : tie.Need-loop-rest-init invariant-loop-rest decreases-loop-rest
 loop-holds c =
     let s = start c in
-    let w : ℕ = c.before.args.word in
-    let small = c.before.requires.small in (
+    let w : ℕ = c.args.word in
+    let small = c.requires.small in (
       omega (arith, s.some),
       start_writing (shape_of w) s.rows (rows-have-room 31 w).partition (omega (arith, small)),
     )
 
-sub-length : tie.Need-overflow-sub-length invariant-loop decreases-loop
+sub-length : tie.Need-overflow_sub-length invariant-loop-rest decreases-loop-rest
 sub-length c = omega (arith, step c)
 
-sub-length-2 : tie.Need-overflow-sub-length-2 invariant-loop decreases-loop
+sub-length-2 : tie.Need-overflow_sub-length-in-loop-rest invariant-loop-rest decreases-loop-rest
 sub-length-2 c = omega (arith, step c)
 
-sub-length-3 : tie.Need-overflow-sub-length-3 invariant-loop decreases-loop
+sub-length-3 : tie.Need-overflow_sub-length-in-loop-rest-2 invariant-loop-rest decreases-loop-rest
 sub-length-3 c = omega (arith, (row c).some)
 
-sub-left : tie.Need-overflow-sub-left invariant-loop decreases-loop
+sub-left : tie.Need-overflow_sub-left invariant-loop-rest decreases-loop-rest
 sub-left c = (row c).ranges
 
-shl-bits : tie.Need-overflow-shl-bits invariant-loop decreases-loop
-shl-bits c = omega (arith, c.before.loop.invariant.1.digits)
+shl-bits : tie.Need-overflow_shl-bits invariant-loop-rest decreases-loop-rest
+shl-bits c = omega (arith, c.loop-rest.invariant.1.digits)
 
-add-bits : tie.Need-overflow-add-bits invariant-loop decreases-loop
+add-bits : tie.Need-overflow_add-bits invariant-loop-rest decreases-loop-rest
 add-bits c =
-    omega (arith, (row c).within, word_below 31 (class_digits (shape_of c.before.before.before.args.word)))
+    omega (arith, (row c).within, word_below 31 (class_digits (shape_of c.args.word)))
 
-sub-rest-3 : tie.Need-overflow-sub-rest-3 invariant-loop decreases-loop
+sub-rest-3 : tie.Need-overflow_sub-rest-in-loop-rest invariant-loop-rest decreases-loop-rest
 sub-rest-3 c = omega (arith, step c)
 
-shl-rest-2 : tie.Need-overflow-shl-rest-2 invariant-loop decreases-loop
+shl-rest-2 : tie.Need-overflow_shl-rest-in-loop-rest invariant-loop-rest decreases-loop-rest
 shl-rest-2 c = search rules
 
-sub-rest-4 : tie.Need-overflow-sub-rest-4 invariant-loop decreases-loop
+sub-rest-4 : tie.Need-overflow_sub-rest-in-loop-rest-2 invariant-loop-rest decreases-loop-rest
 sub-rest-4 c = omega (arith, step c)
 
-loop-less : tie.Need-loop-smaller invariant-loop decreases-loop
+loop-less : tie.Need-loop-rest-smaller invariant-loop-rest decreases-loop-rest
 loop-less c = omega (arith, step c)
 
-loop-again : tie.Need-loop-preserved invariant-loop decreases-loop
+loop-again : tie.Need-loop-rest-preserved invariant-loop-rest decreases-loop-rest
 loop-again c = ((step c).left, (row c).again)
 
-returns-2 : tie.Need-returns-2 invariant-loop decreases-loop
+returns-2 : tie.Need-returns invariant-loop-rest decreases-loop-rest
 returns-2 c =
-    let l = c.before.loop in
-    all-written l.invariant.1 (ap (rows_after l.length) (no-parts-left l.at l.rest c.loop-test.false))
+    let l = c.loop-rest in
+    all-written l.invariant.1 (ap (rows_after l.length) (no-parts-left l.at l.rest c.loop-rest-test.false))
 
-pub old-word-spec : {M : Type 1} → statement M
-old-word-spec =
+pub old_word_spec : {M : Type 1} → statement M
+old_word_spec =
     tie.close
     (tie.spec
-    invariant-loop
-    decreases-loop
+    invariant-loop-rest
+    decreases-loop-rest
     returns
     shl-rest
     sub-rest

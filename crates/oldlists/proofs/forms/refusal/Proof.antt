@@ -14,30 +14,30 @@ use Rattle.words.specs.Calls.{class_degree, shape_degree}
 use Rattle.oldlists.proofs.forms.refusal.Statement.{statement}
 use Rattle.oldlists.proofs.forms.refusal.Tie as tie
 
-degree-requires : tie.Need-degree-requires
+degree-requires : tie.Need-degree-answer-requires
 degree-requires c κs = search rules
 
-returns : tie.Need-returns
+returns : tie.Need-returns-then-old
 unfolding class_degree
 returns c =
-    let w : ℕ = c.before.before.args.word in
-    rw c.before.if1.true (numbered-refusal (class_checks degree_limit w) _ _ c.degree.ensures)
+    let w : ℕ = c.args.word in
+    rw c.if-old.true (numbered-refusal (class_checks degree_limit w) _ _ c.degree-answer.ensures)
 
-degree-requires-2 : tie.Need-degree-requires-2
+degree-requires-2 : tie.Need-degree-answer-requires-2
 degree-requires-2 c κs = search rules
 
-returns-2 : tie.Need-returns-2
+returns-2 : tie.Need-returns-then-word-ge-SHAPE_WORDS
 returns-2 c =
-    let w : ℕ = c.before.before.args.word in
-    rw (c.before.if1.false, le-ltb w (2 ^ shape_width) (omega (arith, c.if2.true)))
+    let w : ℕ = c.args.word in
+    rw (c.if-old.false, le-ltb w (2 ^ shape_width) (omega (arith, c.if-word-ge-SHAPE_WORDS.true)))
 
-returns-3 : tie.Need-returns-3
+returns-3 : tie.Need-returns
 unfolding shape_degree
 returns-3 c =
-    let w : ℕ = c.before.before.before.args.word in
-    let good = lt-ltb w (2 ^ shape_width) (omega (arith, c.before.if2.false)) in
-    rw c.before.before.if1.false
-    (numbered-refusal (shape_checks degree_limit w) _ _ c.degree2.ensures ∙ good-checked degree_limit w good)
+    let w : ℕ = c.args.word in
+    let good = lt-ltb w (2 ^ shape_width) (omega (arith, c.if-word-ge-SHAPE_WORDS.false)) in
+    rw c.if-old.false
+    (numbered-refusal (shape_checks degree_limit w) _ _ c.degree-answer-2.ensures ∙ good-checked degree_limit w good)
 
-pub refusal-spec : {M : Type 1} → statement M
-refusal-spec = tie.close (tie.spec degree-requires returns returns-2 degree-requires-2 returns-3)
+pub refusal_spec : {M : Type 1} → statement M
+refusal_spec = tie.close (tie.spec degree-requires returns returns-2 degree-requires-2 returns-3)

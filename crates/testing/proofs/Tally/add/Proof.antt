@@ -3,13 +3,13 @@ use Rattle.std.proofs.Common.{rules}
 use Rattle.testing.proofs.Tally.add.Statement.{statement}
 use Rattle.testing.proofs.Tally.add.Tie as tie
 
-wrapping-add-u64-requires : tie.Need-wrapping-add-u64-requires
+wrapping-add-u64-requires : tie.Need-wrapping_add_u64-requires
 wrapping-add-u64-requires c κs = search rules
 
-cast-wrapping-add-u64 : tie.Need-overflow-cast-wrapping-add-u64
+cast-wrapping-add-u64 : tie.Need-overflow_cast-right
 cast-wrapping-add-u64 c = search rules
 
-wrapping-add-u64-requires-2 : tie.Need-wrapping-add-u64-requires-2
+wrapping-add-u64-requires-2 : tie.Need-wrapping_add_u64-requires-2
 wrapping-add-u64-requires-2 c κs = search rules
 
 returns : tie.Need-returns

@@ -6,5 +6,5 @@ use Rattle.testing.proofs.numbers.has_room.Tie as tie
 returns : tie.Need-returns
 returns c = has_room c.ranges.z
 
-pub has-room-spec : {M : Type 1} → statement M
-has-room-spec = tie.close (tie.spec returns)
+pub has_room_spec : {M : Type 1} → statement M
+has_room_spec = tie.close (tie.spec returns)

@@ -3,14 +3,14 @@ use Rattle.testing.proofs.Whole.{negative-carried, carried-natural}
 use Rattle.testing.proofs.numbers.natural.Statement.{statement}
 use Rattle.testing.proofs.numbers.natural.Tie as tie
 
-cast-result : tie.Need-overflow-cast-result
-cast-result c = (carried-natural c.before.ranges.number c.if1.false).0
+cast-result : tie.Need-overflow_cast-result
+cast-result c = (carried-natural c.ranges.number c.if-number-lt0.false).0
 
-returns : tie.Need-returns
-returns c = negative-carried c.before.ranges.number c.if1.true
+returns : tie.Need-returns-then-number-lt0
+returns c = negative-carried c.ranges.number c.if-number-lt0.true
 
-returns-2 : tie.Need-returns-2
-returns-2 c = (carried-natural c.before.ranges.number c.if1.false).1
+returns-2 : tie.Need-returns-else-number-lt0
+returns-2 c = (carried-natural c.ranges.number c.if-number-lt0.false).1
 
-pub natural-spec : {M : Type 1} → statement M
-natural-spec = tie.close (tie.spec cast-result returns returns-2)
+pub natural_spec : {M : Type 1} → statement M
+natural_spec = tie.close (tie.spec cast-result returns returns-2)

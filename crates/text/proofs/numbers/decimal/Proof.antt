@@ -10,81 +10,81 @@ use borrow.Author.Rules.{rules}
 use Rattle.text.proofs.numbers.decimal.Statement.{statement}
 use Rattle.text.proofs.numbers.decimal.Tie as tie
 
-text : (c : tie.After-decimal)
-    → take c.decimal.result c.decimal.new.1.0 ≡ decimal c.before.before.before.before.before.args.n
+text : (c : tie.After-decimal-count)
+    → take c.decimal-count.result c.decimal-count.new.1.0 ≡ decimal c.args.n
 text c =
-    let d = c.decimal.ensures in
-    d.1.1 ∙ decimal-digits _ _ c.before.before.before.before.before.ranges.n.fits d.1.0
+    let d = c.decimal-count.ensures in
+    d.1.1 ∙ decimal-digits _ _ c.ranges.n.fits d.1.0
 
-cast-byte : tie.Need-overflow-cast-byte
+cast-byte : tie.Need-overflow_cast-n
 cast-byte c = search rules
 
-add-byte : tie.Need-overflow-add-byte
+add-byte : tie.Need-overflow_add-n
 add-byte c = search rules
 
 byte-requires : tie.Need-byte-requires
 byte-requires c κs = search rules
 
-same_length : tie.Need-same-length
+same_length : tie.Need-shape_of-out-then-n-lt10
 same_length c = search rules
 
-returns : tie.Need-returns
+returns : tie.Need-returns-then-n-lt10
 returns c =
-    let b = c.before.before in
-    let t = b.before.before in
-    rw (one-digit t.before.before.args.n t.if1.true) b.byte.ensures
+    let b = c in
+    let t = b in
+    rw (one-digit t.args.n t.if-n-lt10.true) b.byte.ensures
 
-cast-byte-2 : tie.Need-overflow-cast-byte-2
+cast-byte-2 : tie.Need-overflow_cast-n-then-n-lt100
 cast-byte-2 c = search rules
 
-add-byte-2 : tie.Need-overflow-add-byte-2
+add-byte-2 : tie.Need-overflow_add-n-then-n-lt100
 add-byte-2 c = search rules
 
-byte-requires-2 : tie.Need-byte-requires-2
+byte-requires-2 : tie.Need-byte-end-requires
 byte-requires-2 c κs = search rules
 
-cast-byte-3 : tie.Need-overflow-cast-byte-3
+cast-byte-3 : tie.Need-overflow_cast-n-then-n-lt100-2
 cast-byte-3 c = search rules
 
-add-byte-3 : tie.Need-overflow-add-byte-3
+add-byte-3 : tie.Need-overflow_add-n-then-n-lt100-2
 add-byte-3 c = search rules
 
-byte-requires-3 : tie.Need-byte-requires-3
+byte-requires-3 : tie.Need-byte-requires-then-n-lt100
 byte-requires-3 c κs = search rules
 
-same-length-2 : tie.Need-same-length-2
+same-length-2 : tie.Need-shape_of-out-then-n-lt100
 same-length-2 c = search rules
 
-returns-2 : tie.Need-returns-2
+returns-2 : tie.Need-returns-then-n-lt100
 returns-2 c =
-    let b = c.before.before in
-    let a = b.before.before.before.before in
-    let t = a.before.before in
-    rw (two_digits t.before.before.before.args.n t.before.if1.false t.if2.true)
-    (wrote_then a.byte2.ensures (omega arith) b.byte3.ensures)
+    let b = c in
+    let a = b in
+    let t = a in
+    rw (two_digits t.args.n t.if-n-lt10.false t.if-n-lt100.true)
+    (wrote_then a.byte-end.ensures (omega arith) b.byte-then-n-lt100.ensures)
 
-decimal-requires : tie.Need-decimal-requires
+decimal-requires : tie.Need-decimal-count-requires
 decimal-requires c κs = search rules
 
-array-share-prefix-digits : tie.Need-array-share-prefix-digits
+array-share-prefix-digits : tie.Need-slice_bounds-digits-end
 array-share-prefix-digits c = search rules
 
-slice-aggregate-put : tie.Need-slice-aggregate-put
+slice-aggregate-put : tie.Need-slice_bounds-put-end
 slice-aggregate-put c = search rules
 
 put-requires : tie.Need-put-requires
 put-requires c κs = search rules
 
-same-length-3 : tie.Need-same-length-3
+same-length-3 : tie.Need-shape_of-out
 same-length-3 c = search rules
 
-returns-3 : tie.Need-returns-3
+returns-3 : tie.Need-returns
 returns-3 c =
-    let p = c.before.before in
-    rw (← text p.before.before.before) p.put.ensures
+    let p = c in
+    rw (← text p.before.before.before.before.before) p.put.ensures
 
-pub decimal-spec : {M : Type 1} → statement M
-decimal-spec =
+pub decimal_spec : {M : Type 1} → statement M
+decimal_spec =
     tie.close
     (tie.spec
     cast-byte

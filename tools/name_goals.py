@@ -32,12 +32,22 @@ class Proof:
             old, now = place[2]
             if old:
                 steps.setdefault(old.replace("-", "_"), set()).add(now)
-        self.steps = {}
+        self.steps, self.joins, self.written = {}, {}, {}
         for old, now in steps.items():
-            if len(now) > 1:
+            tests = sorted(it for it in now if it.startswith(("if-", "match-")))
+            joins = sorted(it for it in now if not it.startswith(("if-", "match-")))
+            if len(now) > 1 and len(tests) == 1 and len(joins) == 1:
+                self.steps[old], self.joins[old] = tests[0], joins[0]
+            elif len(now) > 1:
                 self.said.append(f"{path}: step {old} is now one of {sorted(now)}")
             else:
                 self.steps[old] = now.pop()
+        self.fields = {}
+        for place in entry["places"]:
+            if place[4]:
+                self.fields.setdefault(place[2][1], {}).update(place[4])
+            if place[3] in entry["params"]:
+                self.written[place[2][1]] = entry["params"][place[3]]
         self.loops = [it[0] for it in entry["loops"]]
         self.place_of_goal = {}
 
@@ -92,8 +102,11 @@ class Proof:
 
     def bodies(self):
         blocks = re.split(r"(?m)^(?=\S)", self.text)
-        takes = {}
+        takes, self.gives = {}, {}
         for block in blocks:
+            m = re.match(r"(?:abbrev )?(\S+) : .*→ tie\.(\S+)[^→\n]*$", block.split("\n", 1)[0])
+            if m and m[2] in self.parent:
+                self.gives[m[1]] = m[2]
             m = re.match(r"(?:abbrev |unfoldable )?(\S+) : \((\w+) : tie\.(\S+?)[ )]", block)
             if not m:
                 m = re.match(r"(?:abbrev |unfoldable )?(\S+) : ()tie\.((?:At|In|After|Then|Else|Joined|Start)\S*)", block)
@@ -116,12 +129,20 @@ class Proof:
             m = re.match(r"(?:abbrev )?\S+ : \((\w+) : tie\.", block)
             at[m[1] if m else (var[1] if var else "c")] = place
         # names for a place before
-        for m in re.finditer(r"let (\w+) = (\w+)((?:\.before)*) in", block):
+        for m in re.finditer(r"let (\w+) = (?:(\w+)((?:\.before)*)|(\S+) (\w+)((?:\.before)*)) in", block):
             if m[2] in at:
                 at[m[1]] = at[m[2]]
+            elif m[4] in self.gives:
+                at[m[1]] = self.gives[m[4]]
         block = re.sub(
             r"let (\w+) = (\w+)((?:\.before)+) in", lambda m: f"let {m[1]} = {m[2]} in" if m[2] in at else m[0], block
         )
+        # what only leads to a place before
+        if name in self.gives and place:
+            steps = self.distance(place, self.gives[name])
+            block = re.sub(
+                rf"^({re.escape(name)} (\w+) = \2)(?:\.before)*$", lambda m: f"{m[1]}{'.before' * steps}", block, flags=re.M
+            )
 
         # lemmas that take a place
         def given(m):
@@ -146,18 +167,25 @@ class Proof:
                 befores += 1
             if befores == len(rest):
                 return m[0]
-            step = rest[befores]
-            new = self.steps.get(step.replace("-", "_"), step)
-            if root in at:
-                return ".".join([root, new, *rest[befores + 1 :]])
-            if befores or new != step and root not in ("l",):
-                return ".".join([root, *rest[:befores], new, *rest[befores + 1 :]])
+            step, more = rest[befores].replace("-", "_"), rest[befores + 1 :]
+            new = self.joins[step] if more[:1] == ["branch"] and step in self.joins else self.steps.get(step, rest[befores])
+            if len(more) > 2 and more[0] == "new" and more[1].isdigit() and more[2] == "0" and new in self.written:
+                more = ["new", self.written[new][int(more[1])], *more[3:]]
+            if more and more[0] in self.fields.get(new, {}):
+                more = [self.fields[new][more[0]], *more[1:]]
+            if root in at or not root:
+                return ".".join([root, new, *more])
+            if befores:
+                return ".".join([root, *rest[:befores], new, *more])
             return m[0]
 
         block = re.sub(rf"(?<![\w.)])\w+(?:\.{LOGIC})+", path, block)
+        gives = "|".join(re.escape(it) for it in self.gives)
+        if gives:
+            block = re.sub(rf"(\((?:{gives}) \w+(?:\.before)*\))((?:\.{LOGIC})+)", lambda m: m[1] + path(re.match("(.*)", m[2])), block)
         # a negated test says what its operand is, and a join has its two ways as a sum too
         block = re.sub(r"not-(?:false|true) _ (\w+\.if-not-[^\s.()]+\.(?:false|true))", r"\1", block)
-        return re.sub(r"(\w+\.(?:if|match)-[^\s.()]+\.branch)(?![\w-])", r"\1-raw", block)
+        return re.sub(r"(\w+\.[^\s.()]+\.branch)(?![\w-])", r"\1-raw", block)
 
 
 def main():

@@ -27,10 +27,10 @@ parts-requires c κs = search rules
 abbrev asked : tie.After-parts-written → tie.After-shape_at-shape
 asked c = c.before.before.before.before
 
-written : (c : tie.After-parts-written) → let a = (asked c).before.args in
-    FrontGiven (at a.degree a.rank) c.parts-written.result c.parts-written.new.1.0
+written : (c : tie.After-parts-written) → let a = (asked c).args in
+    FrontGiven (at a.degree a.rank) c.parts-written.result c.parts-written.new.column
 written c =
-    let shape = (asked c).shape_at in
+    let shape = (asked c).shape_at-shape in
     parts-of-rank degree_limit _ _ shape.result shape.ensures (omega arith) c.if-shape-ne0.false _ _
     c.parts-written.ensures
 
@@ -46,7 +46,7 @@ word-requires c κs = search rules
 returns-2 : tie.Need-returns
 returns-2 c =
     let parts = c in
-    let shape = (asked parts.before.before.before).shape_at in
+    let shape = (asked parts.before.before.before).shape_at-shape in
     class-given degree_limit _ _ shape.result shape.ensures (omega arith) parts.if-shape-ne0.false _ _
     parts.parts-written.ensures _ c.word.ensures
 

@@ -26,7 +26,7 @@ returns c =
     class-rank-refused degree_limit (omega arith) (word parts.before.before.before) _ _ parts.parts-written.ensures c.if-written-ne0.true
 
 written : (c : tie.Else-written-ne0) → let parts = c in
-    FrontGiven (class_of (word parts.before.before.before)) parts.parts-written.result parts.parts-written.new.1.0
+    FrontGiven (class_of (word parts.before.before.before)) parts.parts-written.result parts.parts-written.new.column
 written c =
     let parts = c in
     parts-of-class degree_limit (omega arith) (word parts.before.before.before) _ _ parts.parts-written.ensures c.if-written-ne0.false

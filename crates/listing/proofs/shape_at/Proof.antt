@@ -61,7 +61,7 @@ shape-words-requires c κs = search rules
 abbrev passed : tie.After-struct_known-3-1 → tie.Else-section-ne0
 passed c = c.before.before.before.before
 
-known : (c : tie.After-struct_known-3-1) → let a = (passed c).before.before.before.args in
+known : (c : tie.After-struct_known-3-1) → let a = (passed c).args in
     Listed degree_limit a.degree a.rank
 known c = record {
   small = small (passed c);
@@ -71,7 +71,7 @@ known c = record {
 inside : (c : tie.After-struct_known-3-1) → let s = (passed c).before.before in
     s.section-section.result.start + s.before.args.rank < word_count
 inside c =
-    let a = (passed c).before.before.before.args in
+    let a = (passed c).args in
     let below = index_below degree_limit a.degree a.rank (known c).small (known c).within in
     omega (arith, words-counted, starts (passed c))
 
@@ -87,7 +87,7 @@ array-read-t11 c = inside c
 returns-3 : tie.Need-returns
 unfolding shape_at
 returns-3 c =
-    let a = (passed c).before.before.before.args in
+    let a = (passed c).args in
     let k = known c in
     let read =
     ap₂ (λ (l : List ℕ) (i : ℕ). get_or l (i + a.rank) 0) c.shape_words-words.ensures (starts (passed c))

@@ -24,17 +24,17 @@ old c = c.args.old
 
 -- where the words are judged, the lengths are as they must be
 fits : (c : tie.After-first_bad-answer) → first_of (no-20 (given c) (lent c) ∷ []) ≡ 0
-fits c = list-short (given c) (lent c) c.if1.false c.if-given-gt-LIST_LIMIT.false
+fits c = list-short (given c) (lent c) c.if-given-lent.false c.if-given-gt-LIST_LIMIT.false-raw
 
 returns : tie.Need-returns-then-given-lent
 returns c =
     let a = c.args in
     let words : List ℕ = a.given.now in
-    let to : List ℕ = a.lent-1.now in
+    let to : List ℕ = a.lent.now in
     lengths-refused (form_checks degree_limit a.old) (other_form a.old) words to (⊎_elim
     (λ w. lengths_differ words to w.taken)
     (λ w. list-long words to w.0.left w.1.taken)
-    c.if1.branch)
+    c.then-given-lent.branch-raw)
 
 first-bad-requires : tie.Need-first_bad-answer-requires
 first-bad-requires c κs = search rules
@@ -49,7 +49,7 @@ write-requires : tie.Need-write-requires
 write-requires c κs =
     let j = c in
     let none = sym (ap (λ (r : ListAnswer). r.refused) j.first_bad-answer.ensures) ∙ c.if-answer-ne0.false in
-    (j.if1.false, none-bad (form_checks degree_limit (old j.before.before.before)) 0 (given j.before.before.before) none)
+    (j.if-given-lent.false, none-bad (form_checks degree_limit (old j.before.before.before)) 0 (given j.before.before.before) none)
 
 same_length : tie.Need-shape_of-lent
 same_length c = search rules

@@ -133,10 +133,10 @@ sub-left : tie.Need-overflow_sub-left invariant-loop-rest decreases-loop-rest
 sub-left c = (row c).falls
 
 sub-left-2 : tie.Need-overflow_sub-left-in-loop-rest invariant-loop-rest decreases-loop-rest
-sub-left-2 c = omega (arith, (row c).ranges)
+sub-left-2 c = omega (arith, (row c).fits)
 
 sub-left-3 : tie.Need-overflow_sub-left-in-loop-rest-2 invariant-loop-rest decreases-loop-rest
-sub-left-3 c = omega (arith, (row c).ranges)
+sub-left-3 c = omega (arith, (row c).fits)
 
 shl-bits : tie.Need-overflow_shl-bits invariant-loop-rest decreases-loop-rest
 shl-bits c = omega (arith, c.loop-rest.invariant.1.digits)
@@ -160,7 +160,7 @@ loop-again : tie.Need-loop-rest-preserved invariant-loop-rest decreases-loop-res
 loop-again c = ((step c).left, (row c).again)
 
 sub-result : tie.Need-overflow_sub-result invariant-loop-rest decreases-loop-rest
-sub-result c = (end c).ranges
+sub-result c = (end c).fits
 
 shl-result : tie.Need-overflow_shl-result invariant-loop-rest decreases-loop-rest
 shl-result c = (end c).bit

@@ -97,7 +97,7 @@ sub-length-3 : tie.Need-overflow_sub-length-in-loop-rest-2 invariant-loop-rest d
 sub-length-3 c = omega (arith, (row c).some)
 
 sub-left : tie.Need-overflow_sub-left invariant-loop-rest decreases-loop-rest
-sub-left c = (row c).ranges
+sub-left c = (row c).fits
 
 shl-bits : tie.Need-overflow_shl-bits invariant-loop-rest decreases-loop-rest
 shl-bits c = omega (arith, c.loop-rest.invariant.1.digits)

@@ -11,7 +11,7 @@ use Rattle.text.proofs.numbers.decimal.Statement.{statement}
 use Rattle.text.proofs.numbers.decimal.Tie as tie
 
 text : (c : tie.After-decimal-count)
-    → take c.decimal-count.result c.decimal-count.new.1.0 ≡ decimal c.args.n
+    → take c.decimal-count.result c.decimal-count.new.out ≡ decimal c.args.n
 text c =
     let d = c.decimal-count.ensures in
     d.1.1 ∙ decimal-digits _ _ c.ranges.n.fits d.1.0

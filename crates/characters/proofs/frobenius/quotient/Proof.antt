@@ -59,7 +59,7 @@ div-result : tie.Need-nonzero_div-result invariant-loop-length decreases-loop-le
 div-result c = (divided c).some
 
 cast-result : tie.Need-overflow_cast-result invariant-loop-length decreases-loop-length
-cast-result c = record { sfits = (divided c).ranges }
+cast-result c = record { sfits = (divided c).fits }
 
 returns : tie.Need-returns invariant-loop-length decreases-loop-length
 returns c = to_z-of_z (cast-result c) ∙ (divided c).is

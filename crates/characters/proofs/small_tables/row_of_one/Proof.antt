@@ -28,7 +28,7 @@ returns c =
     let zeros : List ℤ = pos 0 ∷ pos 0 ∷ pos 0 ∷ pos 0 ∷ [] in
     let none = row_copied 0 rank 1 zeros (count_kept 0 (omega arith)) refl in
     let one = row_copied 1 rank 1 zeros (count_kept 1 (omega arith)) refl in
-    rw (to_z-of_z (sfits_of c.t9.given)) (none, one)
+    rw (to_z-of_z (sfits_of c.result-2-1.given)) (none, one)
 
 pub row_of_one_spec : {M : Type 1} → statement M
 row_of_one_spec = tie.close (tie.spec mul-t4 index-1-t9 index-2-t9 returns)

@@ -26,11 +26,11 @@ returns c =
     let two = c.three_at-2 in
     let three = c.three_at-3 in
     rw (
-      to_z-of_z (sfits_of {z = one.result} one.type-inv),
+      to_z-of_z (sfits_of {z = one.result} one.type_inv),
       one.ensures,
-      to_z-of_z (sfits_of {z = two.result} two.type-inv),
+      to_z-of_z (sfits_of {z = two.result} two.type_inv),
       two.ensures,
-      to_z-of_z (sfits_of {z = three.result} three.type-inv),
+      to_z-of_z (sfits_of {z = three.result} three.type_inv),
       three.ensures,
     )
     (row_copied 3 c.args.rank 3 (pos 0 ∷ pos 0 ∷ []) (count_kept 3 (omega arith)) refl)

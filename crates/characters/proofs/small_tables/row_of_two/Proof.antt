@@ -22,9 +22,9 @@ returns c =
     let one = c.two_at in
     let two = c.two_at-2 in
     rw (
-      to_z-of_z (sfits_of {z = one.result} one.type-inv),
+      to_z-of_z (sfits_of {z = one.result} one.type_inv),
       one.ensures,
-      to_z-of_z (sfits_of {z = two.result} two.type-inv),
+      to_z-of_z (sfits_of {z = two.result} two.type_inv),
       two.ensures,
     )
     (row_copied 2 c.args.rank 2 (pos 0 ∷ pos 0 ∷ pos 0 ∷ []) (count_kept 2 (omega arith)) refl)

@@ -62,7 +62,7 @@ chosen c of-line =
 mul-add-line : tie.Need-offset_bounds-page-line
 mul-add-line c =
     let w = passed c.before in
-    omega (arith, (begin c.before).well-formed.1.0.1, w.there (omega arith), w.soundness.fit)
+    omega (arith, (begin c.before).well_formed.1.0.1, w.there (omega arith), w.soundness.fit)
 
 shared-slice-read-add-line : tie.Need-bounds-page-line
 shared-slice-read-add-line c =
@@ -77,7 +77,7 @@ add-line-requires c κs =
 mul-ratio : tie.Need-offset_bounds-page-line-in-2
 mul-ratio c =
     let w = passed c.before in
-    omega (arith, (begin c.before).well-formed.1.0.1, w.there (omega arith), w.soundness.fit)
+    omega (arith, (begin c.before).well_formed.1.0.1, w.there (omega arith), w.soundness.fit)
 
 shared-slice-read-ratio : tie.Need-bounds-page-line-in-2
 shared-slice-read-ratio c =
@@ -134,7 +134,7 @@ returns-6 c =
     let others = c in
     let w = passed others.before.before in
     let steps : SFits w64 (begin others.before.before).args.slip.steps = search rules in
-    let rest = others.match.rest in
+    let rest = others.in_default.in_default-own.rest in
     let fifth = last-kind _ w.some w.within rest.0.0.0.1 rest.0.0.1 rest.0.1 rest.1 in
     shows-by plain-lawful _ _ _ _ _ w 5 fifth _ (ap whole (to_z-of_z steps))
 

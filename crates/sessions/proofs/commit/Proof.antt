@@ -31,7 +31,7 @@ passed c = c.before.before.before.before
 -- ---- what is known there
 hooks : (c : tie.Else-hooks-ne0) → let a = (begin c).args in
     Hooked degree_limit small a.slip (page c) a.line a.cycle c.strike-hooks.result
-    c.strike-hooks.new.1.1.1.1.0
+    c.strike-hooks.new.strip
 hooks c = hooked _ small _ _ _ _ _ c.strike-hooks.ensures c.if-hooks-ne0.false
 
 -- the words of the page have 64 bits

@@ -19,7 +19,7 @@ begin c = c.before.before.before.before.before.before.before
 
 hooks : (c : tie.Else-hooks-ne0) → let a = (begin c).args in
     Hooked degree_limit small a.slip a.page.now a.line a.cycle c.strike-hooks.result
-    c.strike-hooks.new.1.1.1.1.0
+    c.strike-hooks.new.strip
 hooks c = hooked _ small _ _ _ _ _ c.strike-hooks.ensures c.if-hooks-ne0.false
 
 -- ---- the code
@@ -46,7 +46,7 @@ write-strip-requires c κs =
     let else2 = c in
     let strike = else2.strike-hooks in
     let inside = (hooks else2.before.before.before).inside in
-    omega (arith, length-take-le strike.result.count strike.new.1.1.1.1.0 inside, else2.if-strip-count.false)
+    omega (arith, length-take-le strike.result.count strike.new.strip inside, else2.if-strip-count.false)
 
 same_length : tie.Need-shape_of-strip
 same_length c = search rules

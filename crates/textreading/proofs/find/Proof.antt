@@ -32,13 +32,13 @@ module _ (c : tie.In-loop-place invariant-loop-place decreases-loop-place) where
 
   here : drop c.before.loop-place.place text
       ≡ get_or text c.before.loop-place.place 0 ∷ drop (suc c.before.loop-place.place) text
-  here = drop-cons text c.before.loop-place.place 0 c.loop-test.true
+  here = drop-cons text c.before.loop-place.place 0 c.loop-place-test.true
 
 returns : tie.Need-returns-then-text-place invariant-loop-place decreases-loop-place
 returns c =
     let l = c in
     let found = eq-eqb _ _ c.if-text-place.true in
-    omega (arith, rw (here l, found) at l.loop-place.invariant.1)
+    omega (arith, rw (here l.before.before, found) at l.loop-place.invariant.1)
 
 add-place : tie.Need-overflow_add-place invariant-loop-place decreases-loop-place
 add-place c = search rules
@@ -50,7 +50,7 @@ loop-again : tie.Need-loop-place-preserved invariant-loop-place decreases-loop-p
 loop-again c =
     let l = c in
     let other = ne_eqb _ _ c.if-text-place.false in
-    (omega arith, rw add-one (omega (arith, rw (here l, other) at l.loop-place.invariant.1)))
+    (omega arith, rw add-one (omega (arith, rw (here l.before.before, other) at l.loop-place.invariant.1)))
 
 returns-2 : tie.Need-returns invariant-loop-place decreases-loop-place
 returns-2 c =

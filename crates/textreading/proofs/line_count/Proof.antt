@@ -28,7 +28,7 @@ module _ (c : tie.In-loop-i invariant-loop-i decreases-loop-i) where
   text = c.before.before.args.text.now
 
   here : drop c.before.loop-i.i text ≡ get_or text c.before.loop-i.i 0 ∷ drop (suc c.before.loop-i.i) text
-  here = drop-cons text c.before.loop-i.i 0 c.loop-test.true
+  here = drop-cons text c.before.loop-i.i 0 c.loop-i-test.true
 
 -- at the end every newline is counted
 all : (c : tie.After-loop-i invariant-loop-i decreases-loop-i) → c.loop-i.count ≡ newlines c.args.text.now
@@ -61,10 +61,10 @@ loop-less c = search rules
 loop-again : tie.Need-loop-i-preserved invariant-loop-i decreases-loop-i
 loop-again c =
     let l = c in
-    let h = rw (here l) at l.loop-i.invariant.2 in
+    let h = rw (here l.before.before) at l.loop-i.invariant.2 in
     ⊎_elim
-    (λ w. rw (w.1, add-one) (omega arith, omega arith, omega (arith, rw (eq-eqb _ _ w.0.taken) at h)))
-    (λ w. rw (w.1, add-one) (omega arith, omega arith, omega (arith, rw (ne_eqb _ _ w.0.left) at h)))
+    (λ w. rw (w.count-is, add-one) (omega arith, omega arith, omega (arith, rw (eq-eqb _ _ w.if-text-i-eq10.true) at h)))
+    (λ w. rw (w.count-is, add-one) (omega arith, omega arith, omega (arith, rw (ne_eqb _ _ w.if-text-i-eq10.false) at h)))
     c.if-text-i-eq10.branch-raw
 
 returns : tie.Need-returns-then-i-eq0 invariant-loop-i decreases-loop-i

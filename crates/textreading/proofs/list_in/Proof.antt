@@ -46,10 +46,10 @@ loop-again c =
       omega arith,
       ⊎_elim
           (λ w.
-          rw (w.5, w.6, w.7)
-          (reached-comma _ _ l (room t.before.before.before) w.2.ensures t.loop-i-test.true w.0.taken))
+          rw (w.column-is, w.number-is, w.count-is)
+          (reached-comma _ _ l (room t.before.before.before) w.keep-count.ensures t.loop-i-test.true w.if-byte-eq44.true))
           (λ w.
-          rw (w.2, w.3, w.4) (reached-step _ _ l t.loop-i-test.true w.0.left w.1.ensures))
+          rw (w.column-is, w.number-is, w.count-is) (reached-step _ _ l t.loop-i-test.true w.if-byte-eq44.false w.step-number.ensures))
           c.if-byte-eq44.branch-raw,
     )
 

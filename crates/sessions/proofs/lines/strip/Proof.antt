@@ -30,9 +30,9 @@ start c = c.before.before.before.before.before
 next : (c : tie.In-loop-marks invariant-loop-marks decreases-loop-marks)
     → let a = (start c.before).args in
     let l = c.loop-marks in
-    NextHookLine a.cycle a.line a.class a.strip.now l.marks l.strip l.count (to_z w64 l.settled)
+    NextHookLine a.cycle a.line a.class a.strip.now l.marks l.strip l.count (to_z w64 l.settled-bits)
     (count_leading_zeros 32 l.marks) (1 * 2 ^ (31 - count_leading_zeros 32 l.marks) % 2 ^ 32)
-next c = strip-next _ _ _ _ (start c.before).pre _ _ _ _ c.loop-marks.invariant c.loop-marks-test.true
+next c = strip-next _ _ _ _ (start c.before).requires _ _ _ _ c.loop-marks.invariant c.loop-marks-test.true
 
 -- the hook at the highest mark: what it leaves, and its sign with that of the line
 abbrev in-loop : tie.After-product-sign invariant-loop-marks decreases-loop-marks → tie.In-loop-marks invariant-loop-marks decreases-loop-marks

@@ -82,11 +82,18 @@ class Proof:
         self.text = text
 
     def places(self):
-        self.text = re.sub(
-            r"tie\.((?:At|In|After|Then|Else|Joined|Start|Arm|Case)[^\s()]*)",
-            lambda m: "tie." + self.new_place.get(m[1].replace("-", "_"), m[1]),
-            self.text,
-        )
+        def place(m):
+            old = m[1].replace("-", "_")
+            if old in self.new_place:
+                return "tie." + self.new_place[old]
+            # a place that is no longer there: the one before the call
+            before = re.match(r"(After_\w+?)_arg\d*$", old)
+            if before and before[1] in self.new_place:
+                return "tie." + self.parent[self.new_place[before[1]]]
+            return m[0]
+
+        self.new_place.update({old.replace("-", "_"): new for old, new in self.new_place.items()})
+        self.text = re.sub(r"tie\.((?:At|In|After|Then|Else|Joined|Start|Arm|Case)[^\s()]*)", place, self.text)
         for old, new in self.loops:
             self.text = re.sub(
                 rf"(?<![\w-])(tie\.)?(invariant|decreases)-{re.escape(old)}(?![\w-])",
@@ -134,6 +141,15 @@ class Proof:
                 at[m[1]] = at[m[2]]
             elif m[4] in self.gives:
                 at[m[1]] = self.gives[m[4]]
+        for m in re.finditer(r"let (\w+) = (\S+) \(.*\)(?:\.before)* in$", block, re.M):
+            if m[2] in self.gives:
+                at[m[1]] = self.gives[m[2]]
+        for m in re.finditer(r"let (\w+) = \((\S+) [^()]*\)((?:\.before)*) in$", block, re.M):
+            if m[2] in self.gives:
+                place_now = self.gives[m[2]]
+                for _ in range(m[3].count(".before")):
+                    place_now = self.parent.get(place_now)
+                at[m[1]] = place_now
         block = re.sub(
             r"let (\w+) = (\w+)((?:\.before)+) in", lambda m: f"let {m[1]} = {m[2]} in" if m[2] in at else m[0], block
         )
@@ -145,18 +161,38 @@ class Proof:
             )
 
         # lemmas that take a place
-        def given(m):
-            if m[1] in takes and m[2] in at:
-                steps = self.distance(at[m[2]], takes[m[1]])
-                if steps is None:
-                    self.said.append(f"{self.path}: {name}: {m[1]} takes {takes[m[1]]}, which is not before {at[m[2]]}")
-                else:
-                    return f"{m[1]} {m[2]}{'.before' * steps}"
-            return m[0]
+        names = "|".join(re.escape(it) for it in sorted(takes, key=len, reverse=True))
+
+        def argument(text, at_index):
+            """The argument that begins here: its text as it is to be, where it ends, and its place."""
+            m = re.compile(r"(\w+)((?:\.before)*)(?![\w.-])").match(text, at_index)
+            if m and m[1] in at:
+                return m[1], m.end(), at[m[1]]
+            m = re.compile(rf"\(({names}) ").match(text, at_index)
+            if m and m[1] in self.gives:
+                inner = argument(text, m.end())
+                if inner and text[inner[1] : inner[1] + 1] == ")":
+                    after = re.compile(r"\)((?:\.before)*)(?![\w.-])").match(text, inner[1])
+                    steps = self.distance(inner[2], takes[m[1]])
+                    if after and steps is not None:
+                        return f"({m[1]} {inner[0]}{'.before' * steps})", after.end(), self.gives[m[1]]
+            return None
 
         if takes:
-            names = "|".join(re.escape(it) for it in sorted(takes, key=len, reverse=True))
-            block = re.sub(rf"(?<![^\s(]) *(?<![\w.-])({names}) (\w+)((?:\.before)*)(?![\w.])".replace(" *", ""), given, block)
+            out, last = [], 0
+            for m in re.finditer(rf"(?<![\w.-])({names}) ", block):
+                if m.start() < last:
+                    continue
+                given = argument(block, m.end())
+                if given is None:
+                    continue
+                steps = self.distance(given[2], takes[m[1]])
+                if steps is None:
+                    self.said.append(f"{self.path}: {name}: {m[1]} takes {takes[m[1]]}, which is not before {given[2]}")
+                    continue
+                out += [block[last : m.end()], given[0], ".before" * steps]
+                last = given[1]
+            block = "".join(out) + block[last:]
 
         # steps
         def path(m):

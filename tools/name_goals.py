@@ -205,8 +205,13 @@ class Proof:
                 return m[0]
             step, more = rest[befores].replace("-", "_"), rest[befores + 1 :]
             new = self.joins[step] if more[:1] == ["branch"] and step in self.joins else self.steps.get(step, rest[befores])
-            if len(more) > 2 and more[0] == "new" and more[1].isdigit() and more[2] == "0" and new in self.written:
-                more = ["new", self.written[new][int(more[1])], *more[3:]]
+            if more[:1] == ["new"] and new in self.written:
+                # the old values were nested pairs, one for each parameter
+                ones = 1
+                while ones < len(more) and more[ones] == "1":
+                    ones += 1
+                if ones < len(more) and more[ones] == "0" and ones - 1 < len(self.written[new]):
+                    more = ["new", self.written[new][ones - 1], *more[ones + 1 :]]
             if more and more[0] in self.fields.get(new, {}):
                 more = [self.fields[new][more[0]], *more[1:]]
             if root in at or not root:

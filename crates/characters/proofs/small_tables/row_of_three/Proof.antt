@@ -10,21 +10,21 @@ use Rattle.characters.proofs.SmallTables.{row_copied}
 use Rattle.characters.proofs.small_tables.row_of_three.Statement.{statement}
 use Rattle.characters.proofs.small_tables.row_of_three.Tie as tie
 
-three-at-requires : tie.Need-three_at-requires
+three-at-requires : tie.Need-three-at-requires
 three-at-requires c κs = search rules
 
-three-at-requires-2 : tie.Need-three_at-requires-2
+three-at-requires-2 : tie.Need-three-at-requires-2
 three-at-requires-2 c κs = search rules
 
-three-at-requires-3 : tie.Need-three_at-requires-3
+three-at-requires-3 : tie.Need-three-at-requires-3
 three-at-requires-3 c κs = search rules
 
 returns : tie.Need-returns
 unfolding partition_counts
 returns c =
-    let one = c.three_at in
-    let two = c.three_at-2 in
-    let three = c.three_at-3 in
+    let one = c.before.before.three-at in
+    let two = c.before.three-at2 in
+    let three = c.three-at3 in
     rw (
       to_z-of_z (sfits_of {z = one.result} one.type-inv),
       one.ensures,
@@ -33,8 +33,8 @@ returns c =
       to_z-of_z (sfits_of {z = three.result} three.type-inv),
       three.ensures,
     )
-    (row_copied 3 c.args.rank 3 (pos 0 ∷ pos 0 ∷ []) (count_kept 3 (omega arith)) refl)
+    (row_copied 3 c.before.before.before.args.rank 3 (pos 0 ∷ pos 0 ∷ []) (count_kept 3 (omega arith)) refl)
 
-pub row_of_three_spec : {M : Type 1} → statement M
-row_of_three_spec =
+pub row-of-three-spec : {M : Type 1} → statement M
+row-of-three-spec =
     tie.close (tie.spec three-at-requires three-at-requires-2 three-at-requires-3 returns)

@@ -5,21 +5,21 @@ use Rattle.characters.specs.Private.SmallTables.{small_tables}
 use Rattle.characters.proofs.small_tables.two_at.Statement.{statement}
 use Rattle.characters.proofs.small_tables.two_at.Tie as tie
 
-mul-result : tie.Need-offset_bounds-class
+mul-result : tie.Need-overflow-mul-result
 mul-result c = search rules
 
-mul-result-2 : tie.Need-offset_bounds-class-shape
+mul-result-2 : tie.Need-overflow-mul-result-2
 mul-result-2 c = search rules
 
-index-1-result : tie.Need-bounds-class
+index-1-result : tie.Need-bounds-1-result
 index-1-result c = search rules
 
-index-2-result : tie.Need-bounds-shape
+index-2-result : tie.Need-bounds-2-result
 index-2-result c = search rules
 
 returns : tie.Need-returns
 unfolding small_tables
-returns c = to_z-of_z (sfits_of c.result-1.given)
+returns c = to_z-of_z (sfits_of c.result.given)
 
-pub two_at_spec : {M : Type 1} → statement M
-two_at_spec = tie.close (tie.spec mul-result mul-result-2 index-1-result index-2-result returns)
+pub two-at-spec : {M : Type 1} → statement M
+two-at-spec = tie.close (tie.spec mul-result mul-result-2 index-1-result index-2-result returns)

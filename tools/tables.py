@@ -69,9 +69,9 @@ with open('crates/classcolumns/src/tables.rt', 'w') as file:
 with open('crates/classcolumns/specs/Private/Displacements.antt', 'w') as file:
     rows = [' ∷ '.join(map(str, displacements[i:i + 16])) for i in range(0, EIGHT_DIGITS, 16)]
     file.write('-- Made by tools/tables.py: the displacements that give the shape words their places (Places.antt).\n')
-    file.write('--   displacementTable     one for each number of eight digits\n')
-    file.write('--   largestDisplacement   the largest of them\n')
-    file.write('use Rattle·theory.specs.Basics.{List, [], _∷_, ℕ}\n\n')
-    file.write('abbrev pub largestDisplacement : ℕ\nlargestDisplacement = %d\n\n' % max(displacements))
-    file.write('unfoldable pub displacementTable : List ℕ\ndisplacementTable =\n    ')
+    file.write('--   displacement_table     one for each number of eight digits\n')
+    file.write('--   largest_displacement   the largest of them\n')
+    file.write('use Rattle.theory.specs.Basics.{List, [], ◌∷◌, ℕ}\n\n')
+    file.write('abbrev pub largest_displacement : ℕ\nlargest_displacement = %d\n\n' % max(displacements))
+    file.write('unfoldable pub displacement_table : List ℕ\ndisplacement_table =\n    ')
     file.write(' ∷\n    '.join(rows) + ' ∷ []\n')

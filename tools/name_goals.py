@@ -224,6 +224,8 @@ class Proof:
         gives = "|".join(re.escape(it) for it in self.gives)
         if gives:
             block = re.sub(rf"(\((?:{gives}) \w+(?:\.before)*\))((?:\.{LOGIC})+)", lambda m: m[1] + path(re.match("(.*)", m[2])), block)
+        # a signed number of a loop is a number now, beside its bits
+        block = re.sub(r"(to_z w\d+ (?:[^\s.()]+\.)*(?:loop[\w-]*|l)\.\w+)(?![\w.-])", r"\1-bits", block)
         # a negated test says what its operand is, and a join has its two ways as a sum too
         block = re.sub(r"not-(?:false|true) _ (\w+\.if-not-[^\s.()]+\.(?:false|true))", r"\1", block)
         return re.sub(r"(\w+\.[^\s.()]+\.branch)(?![\w-])", r"\1-raw", block)

@@ -116,7 +116,7 @@ def in_order(files):
         lib = 'crates/%s/specs/Lib.antt' % crate
         mods = re.findall(r'pub mod (\w+)', tree.read(lib)) if os.path.exists(lib) else []
         first = re.sub(r'\.antt$', '', file.split('/')[3]) if file.count('/') > 2 else ''
-        return tree.crates().index(crate), mods.index(first) if first in mods else -1, file
+        return tree.crates().index(crate), mods.index(first) if first in mods else -1, '/proofs/' in file, file
     return sorted(files, key=place)
 
 
@@ -191,14 +191,17 @@ def edits_table(_):
 
 
 def sizes_table(_):
-    rows = []
+    rows, with_code = [], {path.split('::')[0] for path in tree.functions()}
     for crate in tree.crates():
         folder = 'crates/%s/' % crate
         top = tree.lines_of(folder + 'specs/*.antt')
         private = tree.lines_of(folder + 'specs/Private/**/*.antt')
+        laws = tree.lines_of(folder + 'specs/*/**/*.antt') - private
+        proofs = tree.lines_of(folder + 'proofs/**/*.antt')
+        # in a crate without code proofs/ has laws
         counts = [
-            top, tree.lines_of(folder + 'specs/*/**/*.antt') - private, private,
-            tree.lines_of(folder + 'proofs/**/*.antt'), tree.lines_of(folder + 'src/**/*.rt'),
+            top, laws if crate in with_code else laws + proofs, private, proofs if crate in with_code else 0,
+            tree.lines_of(folder + 'src/**/*.rt'),
             sum(crate in crates for crates in tree.edits().values())]
         rows.append(['`%s`' % crate] + [str(count) if count else '' for count in counts])
     totals = [str(sum(int(row[i] or 0) for row in rows)) for i in range(1, 7)]

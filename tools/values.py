@@ -6,9 +6,10 @@ The definitions are those of the specs of `theory`, `words`, `listing`, `oldlist
 the gathered mode, and texts.py for the text of a session. Each equation is a list of expressions over the definitions
 and the list of their values, proved by computation alone (`refl`).
 
-A copy of the crates is made in a temporary folder, with crates beside them that have the equations, and `rt` proves
-these; what the repository has proved already is not proved again. Then some values of each notion are changed at
-random, one in an equation, and the checker has to refuse every such equation: so the comparison can fail.
+A copy of the crates is made in a temporary folder, with crates beside them that have the equations, and `rt all check`
+proves these; what a checkout on this machine has proved already is not proved again. Then some values of each notion
+are changed at random, one in an equation, and the checker has to refuse every such equation: so the comparison can
+fail.
 
     python3 tools/values.py                  characters and watches up to degree 10, the rest up to 16; the gathered
                                              mode up to 8, and on (2^8)
@@ -16,8 +17,8 @@ random, one in an equation, and the checker has to refuse every such equation: s
     python3 tools/values.py --only commits,watches --seed 7    some notions, other random cases
     python3 tools/values.py --keep DIR       leave the equations in DIR, to be read
 
-Without options it compares some 66,000 values of 4,400 equations, in 240 seconds of processor time on as many cores as
-there are up to four (four minutes were seen on two busy ones); longer where the crates have to be proved first.
+Without options it compares some 66,000 values of 4,400 equations, on as many cores as there are up to four: in minutes,
+and in longer where the crates have to be proved first.
 
 It is run by hand, and is no part of the gate. The exit status is 0 only if every value agrees and every changed one is
 refused. It needs Python 3 and `rt`. For a new definition write one more function with @notion in front, which yields
@@ -48,7 +49,6 @@ from texts import (  # noqa: E402
 CRATES = ['theory', 'text', 'textreading', 'words', 'listing', 'oldlists', 'pairs', 'linewords', 'pages', 'sessions',
           'characters', 'classcolumns', 'sessiontext']
 NO_SPECS = ['clearing', 'hooks']  # what some of them rest on, and that defines nothing
-LIBRARIES = ['check', 'io']  # what some of them rest on
 
 
 # ---- values as text of antt
@@ -141,8 +141,8 @@ def call(name, *texts):
 
 
 def gathered_call(name, *texts):
-    """One that takes a mode too, or a form of texts if it ends in By: the gathered one."""
-    return call('%s %s' % (name, 'gathered_form' if name.endswith('By') else 'gathered_mode'), *texts)
+    """One that takes a mode too, or a form of texts if it ends in _by: the gathered one."""
+    return call('%s %s' % (name, 'gathered_form' if name.endswith('_by') else 'gathered_mode'), *texts)
 
 
 # ---- cases
@@ -1090,20 +1090,20 @@ def gathered_loads(n, seed):
 
 # ---- the writing
 CONSTRUCTORS = {
-    'Rattle·theory.specs.Basics': 'Bool true false List [] _∷_ _++_ replicate get_or ℕ ℤ pos negsuc'.split(),
-    'Rattle·theory.specs.Hooks': ['Hook'],
-    'Rattle·theory.specs.ClassData.Periods': ['period_from'],  # of a file of laws, which `definitions` passes over
-    'Rattle·words.specs.declared.CountAnswer': ['CountAnswer'],
-    'Rattle·oldlists.specs.declared.ListAnswer': ['ListAnswer'],
-    'Rattle·pages.specs.declared.Slip': ['Slip'],
-    'Rattle·pages.specs.Line': ['Line'],
-    'Rattle·sessions.specs.declared.Handed': ['Handed'],
-    'Rattle·sessiontext.specs.declared.Loaded': ['Loaded'],
-    'Rattle·characters.specs.Watch': ['Value', 'whole', 'quotient', 'none'],
+    'Rattle.theory.specs.Basics': 'Bool true false List [] ◌∷◌ ◌++◌ replicate get_or ℕ ℤ pos negsuc'.split(),
+    'Rattle.theory.specs.Hooks': ['Hook'],
+    'Rattle.theory.specs.ClassData.Periods': ['period_from'],  # of a file of laws, which `definitions` passes over
+    'Rattle.words.specs.declared.CountAnswer': ['CountAnswer'],
+    'Rattle.oldlists.specs.declared.ListAnswer': ['ListAnswer'],
+    'Rattle.pages.specs.declared.Slip': ['Slip'],
+    'Rattle.pages.specs.Line': ['Line'],
+    'Rattle.sessions.specs.declared.Handed': ['Handed'],
+    'Rattle.sessiontext.specs.declared.Loaded': ['Loaded'],
+    'Rattle.characters.specs.Watch': ['Value', 'whole', 'quotient', 'none'],
     'lib.Ieee': ['Float', 'fin'],
-    'mathlib.Core.Path': ['_≡_', 'refl'],
+    'mathlib.Core.Path': ['◌≡◌', 'refl'],
 }
-LIBRARY = ['div', 'ofInt']  # definitions of lib.Ieee that have to be unfolded
+LIBRARY = ['div', 'of_int']  # definitions of lib.Ieee that have to be unfolded
 PASSED_OVER = ['Lib.antt', 'Private.antt', 'Examples.antt']
 HIDDEN = [  # asked by no notion, and named as something else is
     ('textreading', 'step'), ('pages', 'left')]
@@ -1169,7 +1169,7 @@ def definitions():
                 text = open('crates/%s/specs/%s' % (crate, file), encoding='utf8').read()
                 found = re.findall(r'^ *(abbrev|unfoldable) pub (\S+) :', text, re.M)
                 own = [name for _, name in found if (crate, name) not in HIDDEN]
-                names.setdefault('Rattle·%s.specs.%s' % (crate, file[:-5]), []).extend(own)
+                names.setdefault('Rattle.%s.specs.%s' % (crate, file[:-5]), []).extend(own)
                 shut += [name for way, name in found if way == 'unfoldable']
     names['lib.Ieee'] += LIBRARY
     return names, shut + LIBRARY
@@ -1182,35 +1182,39 @@ def write(folder, file, text, how='w'):
         out.write(text)
 
 
+def module(notion_name):
+    """The module of a notion's equations."""
+    return ''.join(word.capitalize() for word in notion_name.split('_'))
+
+
 def write_crate(folder, crate, modules):
     """A crate with no function, and a file of equations for each notion."""
     names, shut = definitions()
     for notion_name, made in modules.items():
         body = OWN + ''.join(equation_text(*equation, shut) for equation in made)
         words = set(re.split(r'[\s(),;{}]+', body))
-        used = [(place, [name for name in own if words & {name, name.strip('_')}]) for place, own in names.items()]
+        used = [(place, [name for name in own if words & {name, name.strip('◌')}]) for place, own in names.items()]
         uses = ['use %s.{%s}\n' % (place, ', '.join(own)) for place, own in used if own]
-        write(folder, 'crates/%s/specs/%s.antt' % (crate, notion_name), ''.join(uses) + body)
-    write(folder, 'crates/%s/specs/Lib.antt' % crate, ''.join('pub mod %s\n' % name for name in modules))
-    write(folder, 'crates/%s/src/lib.rt' % crate, '// Nothing.\n')
-    write(folder, 'crates.txt', '%s: %s\n' % (crate, ' '.join(CRATES + LIBRARIES)), 'a')
+        write(folder, 'crates/%s/proofs/%s.antt' % (crate, module(notion_name)), ''.join(uses) + body)
+    write(folder, 'crates/%s/proofs/Lib.antt' % crate, ''.join('mod %s\n' % module(name) for name in modules))
+    write(folder, 'crates/%s/src/lib.rt' % crate, '// Nothing.\n\n#![tactic(auto)]\n')
+    write(folder, 'crates.txt', '%s: %s\n' % (crate, ' '.join(CRATES)), 'a')
 
 
 def copy_crates(folder):
-    """The crates whose definitions are asked, with what is proved of them already (rt tells by their stamps)."""
+    """The crates whose definitions are asked. What a checkout on this machine has proved of them, rt takes from there."""
     lines = [text for text in open('crates.txt', encoding='utf8') if text.split(':')[0] in CRATES + NO_SPECS]
     write(folder, 'crates.txt', ''.join(lines))
     for crate in CRATES + NO_SPECS:
-        shutil.copytree('crates/' + crate, '%s/crates/%s' % (folder, crate))
-        if os.path.exists('target/stamp/' + crate) and os.path.isdir('target/rlib/%s.rlib' % crate):
-            shutil.copytree('target/rlib/%s.rlib' % crate, '%s/target/rlib/%s.rlib' % (folder, crate))
-            write(folder, 'target/stamp/' + crate, open('target/stamp/' + crate, encoding='utf8').read())
+        shutil.copytree('crates/' + crate, '%s/crates/%s' % (folder, crate),
+                        ignore=shutil.ignore_patterns('out', 'must-fail'))
 
 
-def check(folder, crates):
-    """Has rt prove crates: whether all are proved, the equations whose sides differ (one past the checker's step limit
-    is not told to differ), and what was said."""
-    ran = subprocess.run(['rt', 'check', *crates], cwd=folder, stdout=subprocess.PIPE, stderr=subprocess.STDOUT)
+def check(folder, at_once):
+    """Has rt prove the crates: whether all are proved, the equations whose sides differ (one past the checker's step
+    limit is not told to differ), and what was said."""
+    ran = subprocess.run(['rt', 'all', 'check', '--jobs', str(at_once)], cwd=folder, stdout=subprocess.PIPE,
+                         stderr=subprocess.STDOUT)
     said = ran.stdout.decode()
     blocks = [text for text in re.split(r'(?m)^(?=\S)', said) if 'the two types' in text and 'step limit' not in text]
     refused = {m[1] for m in (re.match(r'\S+antt:\d+:\d+: error: `([^`]+)`: ', text) for text in blocks) if m}
@@ -1240,15 +1244,16 @@ def run(asked, folder):
     copy_crates(folder)
     for i in range(parts):
         write_crate(folder, 'right_%d' % i, {name: made[i::parts] for name, made in right.items()})
-    write_crate(folder, 'wrong', wrong)
     print('equations written, %.0f s' % (time.time() - began), flush=True)
-    proved, refused, said = check(folder, ['right_%d' % i for i in range(parts)])
+    proved, refused, said = check(folder, parts)
     values = {name: sum(count for _, pairs in made for _, _, count in pairs) for name, made in right.items()}
     for name, made in right.items():
         print('%-20s %6d values of %4d equations' % (name, values[name], len(made)))
         print(''.join('    DIFFERS: %s\n' % equation for equation, _ in made if equation in refused), end='')
     changed = {equation for made in wrong.values() for equation, _ in made}
-    caught = check(folder, ['wrong'])[1] & changed if proved else set()
+    if proved:
+        write_crate(folder, 'wrong', wrong)
+    caught = check(folder, parts)[1] & changed if proved else set()
     print('' if proved else said, end='')
     print(''.join('NOT REFUSED: %s\n' % equation for equation in sorted(changed - caught) if proved), end='')
     print('%s: %d values of %d equations; %d of %d changed values refused; %.0f s' % (

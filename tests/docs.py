@@ -31,16 +31,15 @@ import tree  # noqa: E402
 PROMISES, READING, DECISIONS = 'docs/PROMISES.md', 'docs/READING.md', 'docs/DECISIONS.md'
 
 # Words of the two languages and of the notation, of the kit's library, placeholders, and texts that are shown.
-WORDS = set('''requires ensures abbrev unfoldable pub mod enum struct extern u8 u64 i64 usize f64 read write
-rt help stdout NAME CRATE
+WORDS = set('''requires ensures abbrev unfoldable pub mod enum struct extern u8 u64 i64 usize f64 std
+rt help stdout crates/NAME CRATE
 '''.split()) | {
-    'x ∷ xs', '[]', '++', '≡', 'p ∣ n', '×', '→ ⊥', '(n : ℕ) × P', '(_=? p)', 'cond b x y',
-    'elim z [ | pos n ↦ .. ]', 'r .refused', '.0', '.1', 'now (page .entry)', 'now (page .exit)', '&', '&[u8]', '&[..]',
+    'x ∷ xs', '[]', '++', '≡', 'p ∣ n', '×', '→ ⊥', '(n : ℕ) × P', '(◌=? p)', 'cond b x y',
+    'elim z [ | pos n ↦ .. ]', 'r.refused', '.0', '.1', 'parts.now', 'page.old', 'page.new', '&', '&[u8]', '&[..]',
     '&[u64]', '&mut [..]', '&mut [u64]', '&mut [i64]', '!s & (s << h)', 'suc zero', 'extern "C"', '-lzembrusha',
-    'X: name', 'X.antt', 'specs/X.antt', 'specs/X/', 'proofs/F/Proof.antt', 'crate::function',
-    'In', 'By', 'mode=gathered', 'degree=', 'degree=3', 'class=', 'class=3', 'refused=12', 'refused=13', 'table 5',
-    '0x2C000000',
-    'N passed, 0 failed', 'old:', 'new:', 'pub mod', 'pub fn'}
+    '--only F', '--start F', 'X: name', 'X.antt', 'specs/X.antt', 'specs/X/', 'proofs/X/', 'proofs/F/',
+    'crate::function', 'In', 'By', 'mode=gathered', 'degree=', 'degree=3', 'class=', 'class=3', 'refused=12', 'refused=13', 'table 5',
+    '0x2C000000', 'rattle-kit-13f logic dac8208d650f15bf', 'N passed, 0 failed', 'old:', 'new:', 'pub mod', 'pub fn'}
 
 # Commands of rt, and the folder of what they make, which need not be there.
 COMMANDS = 'all check ci doc fmt lib must-fail run tidy verdict version'.split()
@@ -346,7 +345,7 @@ CHANGES = [
     ('docs/PROOF.md', r'`lowered-lowered`', '`lowered-lowering`', 'Lowered.antt has no lowered-lowering'),
     ('docs/ARCHITECTURE.md', r'^\| `listing`.*\n', '', 'no row for the crate listing'),
     ('docs/CONTRIBUTING.md', r'^old: .*', 'old: nothing', 'the edit that it shows'),
-    ('docs/CONTRIBUTING.md', r'`rt dev', '`rt deliver', 'nothing is named rt deliver'),
+    ('docs/CONTRIBUTING.md', r'`rt check`', '`rt chock`', 'nothing is named rt chock'),
     ('docs/CONTRIBUTING.md', r'\bdocs/PROMISES', 'docs/PROMISE', 'no file docs/PROMISE.md'),
     (DECISIONS, r'^\*\*D2\. ', '**D1. ', 'D1 is there twice'),
     (DECISIONS, r'^\*\*D2\. ', '**', 'no number'),

@@ -10,7 +10,7 @@ BACK = {"ranges": "fits", "true": "taken", "false": "left", "requires": "pre", "
         "branch": "came", "init": "holds", "preserved": "again", "smaller": "less", "new": "now"}
 FORTH = {"pre": "requires", "inv": "invariant", "taken": "true", "left": "false", "post": "ensures", "came": "branch-raw"}
 changed = 0
-for line in open(sys.argv[1], encoding="utf-8"):
+for line in re.sub(r"\n  ", " — ", open(sys.argv[1], encoding="utf-8").read()).split("\n"):
     m = re.match(r"(?:so far: )?(\S+?):(\d+):(\d+): error: .*record `[^`]*` has no field `([\w-]+)`(.*)", line)
     if not m:
         continue

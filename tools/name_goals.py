@@ -20,6 +20,35 @@ def plain(name):
     return re.sub(r"^(overflow|nonzero|offset_bounds|bounds)[-_]", "", name).replace("-", "_")
 
 
+def base(name):
+    """A goal's older name with neither its number nor what the scripts put before it."""
+    name = re.sub(r"^Need[-_]", "", name).replace("-", "_")
+    name = re.sub(r"^(overflow|nonzero|offset_bounds|bounds)_", "", name)
+    name = re.sub(r"^(part|slice_bounds)_", "part_", name)
+    return re.sub(r"(_\d+)$", "", name)
+
+
+def aligned(mine, theirs, weights):
+    """The best way to lay one list beside the other, in order: which of theirs each of mine is."""
+    best = [[0] * (len(theirs) + 1) for _ in range(len(mine) + 1)]
+    for i in range(len(mine) - 1, -1, -1):
+        for j in range(len(theirs) - 1, -1, -1):
+            same = mine[i] == theirs[j] or re.sub(r"\d+$", "", mine[i]) == re.sub(r"\d+$", "", theirs[j])
+            best[i][j] = max(best[i + 1][j], best[i][j + 1], best[i + 1][j + 1] + weights[i] if same else 0)
+    i = j = 0
+    found = {}
+    while i < len(mine) and j < len(theirs):
+        same = mine[i] == theirs[j] or re.sub(r"\d+$", "", mine[i]) == re.sub(r"\d+$", "", theirs[j])
+        if same and best[i][j] == best[i + 1][j + 1] + weights[i]:
+            found[i] = j
+            i, j = i + 1, j + 1
+        elif best[i + 1][j] >= best[i][j + 1]:
+            i += 1
+        else:
+            j += 1
+    return found
+
+
 class Proof:
     def __init__(self, entry, path, text):
         self.path, self.text, self.said = path, text, []
@@ -64,21 +93,25 @@ class Proof:
                     rf"^({re.escape(answer)} : tie\.)Need-\S+", lambda m: f"{m[1]}Need-{new}", text, count=1, flags=re.M
                 )
         else:
-            said = f"{self.path}: {len(answers)} answers {answers}, {len(self.needs)} goals: {[n for _, n in self.needs]}"
-            self.said.append(said)
-            by = {}
-            for (old, new), place in zip(self.needs, self.asked):
-                by.setdefault(plain(old), (new, place))
-            for answer, kind in kinds.items():
-                if not kind.startswith("Need-"):
-                    continue
-                new, place = by.get(plain(kind[5:]), (kind[5:], None))
-                if place is None:
-                    self.said.append(f"{self.path}: no goal for {answer} : {kind}")
-                self.place_of_goal[answer] = place
-                text = re.sub(
-                    rf"^({re.escape(answer)} : tie\.)Need-\S+", lambda m: f"{m[1]}Need-{new}", text, count=1, flags=re.M
-                )
+            mine = [base(kinds.get(a, a)) for a in answers]
+            theirs = [base(old) for old, _ in self.needs]
+            plainly = [re.search(rf"(?m)^{re.escape(a)} c(?: κs)? = search rules$", text) for a in answers]
+            matched = aligned(mine, theirs, [2 if it else 3 for it in plainly])
+            for k, answer in enumerate(answers):
+                if k in matched:
+                    new, place = self.needs[matched[k]][1], self.asked[matched[k]]
+                    self.place_of_goal[answer] = place
+                    text = re.sub(
+                        rf"^({re.escape(answer)} : tie\.)Need-\S+", lambda m: f"{m[1]}Need-{new}", text, count=1, flags=re.M
+                    )
+                else:
+                    self.said.append(f"{self.path}: no goal for {answer} : {kinds.get(answer)}: taken out")
+                    text = re.sub(rf"(?ms)^{re.escape(answer)} : tie\..*?(?=^\S+ [:(]|^abbrev |^unfoldable |^module |^pub |^-- |\Z)", "", text, count=1)
+                    at = text.index("tie.spec")
+                    text = text[:at] + re.sub(rf"(?<=\s){re.escape(answer)}(?=[\s)])\s?", "", text[at:], count=1)
+            left = [self.needs[k][1] for k in range(len(self.needs)) if k not in matched.values()]
+            if left:
+                self.said.append(f"{self.path}: no answer for {left}")
         self.text = text
 
     def places(self):
@@ -114,6 +147,15 @@ class Proof:
             m = re.match(r"(?:abbrev )?(\S+) : .*→ tie\.(\S+)[^→\n]*$", block.split("\n", 1)[0])
             if m and m[2] in self.parent:
                 self.gives[m[1]] = m[2]
+            inside = re.match(r"module _ \((\w+) : tie\.([^\s)]+)", block)
+            if inside and inside[2] in self.parent:
+                for line in block.split("\n"):
+                    m = re.match(r"  (?:pub )?(?:abbrev )?(?:pub )?([^\s:=]+) : (?:tie\.([^\s]+)$)?", line)
+                    if m:
+                        takes[m[1]] = inside[2]
+                        if m[2] in self.parent:
+                            self.gives[m[1]] = m[2]
+                continue
             m = re.match(r"(?:abbrev |unfoldable )?(\S+) : \((\w+) : tie\.(\S+?)[ )]", block)
             if not m:
                 m = re.match(r"(?:abbrev |unfoldable )?(\S+) : ()tie\.((?:At|In|After|Then|Else|Joined|Start)\S*)", block)
@@ -132,6 +174,23 @@ class Proof:
             return block
         var = re.match(rf"{re.escape(name or '')} (\w+)[ =]", block)
         at = {}
+        inside = re.match(r"module _ \((\w+) : tie\.([^\s)]+)", block)
+        if inside and inside[2] in self.parent:
+            own = inside[2]
+            at[inside[1]] = own
+            for m in re.finditer(r"^  (?:pub )?(?:abbrev )?([^\s:=]+) : tie\.(\S+)$", block, re.M):
+                if m[2] in self.parent:
+                    at[m[1]] = m[2]
+
+            def led(m):
+                if m[2] in at and m[3] in at:
+                    steps = self.distance(at[m[3]], at[m[2]])
+                    if steps is not None:
+                        return f"{m[1]}{m[2]} = {m[3]}{'.before' * steps}"
+                return m[0]
+
+            block = re.sub(r"^(  )([^\s=]+) = (\w+)(?:\.before)+$", led, block, flags=re.M)
+            takes = {k: v for k, v in takes.items() if not re.search(rf"^  (?:pub )?(?:abbrev )?{re.escape(k)} : ", block, re.M)}
         if place:
             m = re.match(r"(?:abbrev )?\S+ : \((\w+) : tie\.", block)
             at[m[1] if m else (var[1] if var else "c")] = place
@@ -226,8 +285,8 @@ class Proof:
             block = re.sub(rf"(\((?:{gives}) \w+(?:\.before)*\))((?:\.{LOGIC})+)", lambda m: m[1] + path(re.match("(.*)", m[2])), block)
         # a signed number of a loop is a number now, beside its bits
         block = re.sub(r"(to_z w\d+ (?:[^\s.()]+\.)*(?:loop[\w-]*|l)\.\w+)(?![\w.-])", r"\1-bits", block)
-        # a negated test says what its operand is, and a join has its two ways as a sum too
-        block = re.sub(r"not-(?:false|true) _ (\w+\.if-not-[^\s.()]+\.(?:false|true))", r"\1", block)
+        block = re.sub(r"to_z-of_z \(search rules\)", "to_z-of_z {w = w64} (search rules)", block)
+        # a join has its two ways as a sum too
         return re.sub(r"(\w+\.[^\s.()]+\.branch)(?![\w-])", r"\1-raw", block)
 
 

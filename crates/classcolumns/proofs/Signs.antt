@@ -1,5 +1,5 @@
 -- A number of 64 bits times a sign is the number with that sign, and has room.
-use mathlib.Core.Path.{◌≡◌, ◌∙◌, ap₂}
+use mathlib.Core.Path.{◌≡◌, ◌∙◌}
 use Prim.Native.Nat.{◌<◌}
 use native.Mathlib.Omega.{arith}
 use mir.Facts.{to_z-of_z}

@@ -13,7 +13,7 @@ use lib.ListN.{length-append, length-replicate, drop_of_length-le}
 use lib.Seq.{sets, drop-cons, set_at, set_out, append_snoc, get_or-set_same, get_or-set_other}
 use Rattle.theory.specs.Basics.{Bool, true, false, cond, List, [], ◌∷◌, ◌++◌, map, length, get_or, set, drop}
 use Rattle.theory.specs.Basics.{replicate, ℕ, zero}
-use Rattle.theory.specs.Basics.{suc, ◌+◌, ◌-◌, ◌*◌, ◌^◌, ℤ, pos, ◌+ℤ◌, nat_abs, ◌=?◌, ◌<?◌}
+use Rattle.theory.specs.Basics.{suc, ◌+◌, ◌*◌, ◌^◌, ℤ, pos, ◌+ℤ◌, nat_abs, ◌=?◌, ◌<?◌}
 use Rattle.theory.proofs.Bounds.Laws.{abs-add}
 use Rattle.gathered.specs.Private.Joining.{place, Small, saved_at, saved_by, raised, picked}
 

@@ -5,7 +5,7 @@ use mathlib.Core.Path.{◌≡◌, refl, sym, ◌∙◌, ap, ap₂}
 use Prim.Native.Nat.{◌≤◌, ◌<◌}
 use native.Mathlib.Omega.{arith}
 use borrow.Author.Tests.{lt-ltb, le-ltb, eq-eqb, ne_eqb, ltb-false}
-use Rattle.theory.specs.Basics.{true, false, cond, List, [], ◌∷◌, ◌++◌, map, length, replicate, ℕ, ◌-◌, ℤ, pos}
+use Rattle.theory.specs.Basics.{true, false, cond, List, [], ◌∷◌, ◌++◌, map, length, replicate, ℕ, ℤ, pos}
 use Rattle.theory.specs.Basics.{◌=?◌}
 use Rattle.theory.specs.Limits.{page_limit}
 use Rattle.theory.specs.Partition.{degree}

@@ -10,7 +10,7 @@ use borrow.Author.Tests.{le-ltb, eqb-false}
 use lib.IntN.{+ℤ_idl}
 use lib.ListN.{length-map}
 use lib.Seq.{sets, sets-eq, length-sets, take_at}
-use Rattle.theory.specs.Basics.{false, List, [], ◌∷◌, ◌++◌, map, length, take, ℕ, ◌+◌, ◌-◌, ◌*◌}
+use Rattle.theory.specs.Basics.{false, List, [], ◌∷◌, ◌++◌, map, length, take, ℕ, ◌*◌}
 use Rattle.theory.specs.Basics.{◌^◌, ℤ, pos}
 use Rattle.theory.specs.Basics.{◌+ℤ◌, ◌*ℤ◌, nat_abs, sum, ◌=?◌, Each}
 use Rattle.theory.proofs.Basics.Integers.Products.{abs-times}

@@ -8,7 +8,7 @@ use lib.ListN.{length-drop}
 use lib.Seq.{drop-drop, take_all}
 use Rattle.theory.specs.Basics.{Bool, true, false, not, ◌&&◌, cond, List, [], ◌∷◌, ℕ, suc, ◌+◌, ◌-◌, ◌^◌, pos, ◌=?◌}
 use Rattle.theory.specs.Basics.{length}
-use Rattle.theory.specs.Basics.{get_or, take, drop, same, every, ◌<?◌, Each}
+use Rattle.theory.specs.Basics.{get_or, take, drop, same, Each}
 use Rattle.theory.proofs.Basics.Keep.{same_test}
 use Rattle.theory.proofs.Basics.Laws.{same_lists}
 use Rattle.theory.specs.Partition.{degree}

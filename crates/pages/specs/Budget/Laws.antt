@@ -7,8 +7,8 @@ use Rattle.std.proofs.lemmas.Bool.{false≢true}
 use native.Mathlib.Omega.{arith}
 use Rattle.std.specs.Int.Signed.{non_neg}
 use borrow.Author.Tests.{leb-true, le-leb}
-use Rattle.theory.specs.Basics.{Bool, true, false, cond, ◌&&◌, List, [], ◌∷◌, ◌++◌, length, drop, ℕ, ◌-◌, nat_abs, ◌=?◌}
-use Rattle.theory.specs.Basics.{◌≤?◌, every, Each}
+use Rattle.theory.specs.Basics.{Bool, true, false, cond, ◌&&◌, List, [], ◌∷◌, ◌++◌, length, ℕ, ◌-◌, nat_abs, ◌=?◌}
+use Rattle.theory.specs.Basics.{◌≤?◌, Each}
 use Rattle.theory.proofs.Basics.Laws.{both}
 use Rattle.theory.proofs.Basics.Keep.{same_test}
 use Rattle.theory.specs.Bounds.{factorial, S}

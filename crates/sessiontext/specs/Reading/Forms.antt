@@ -9,7 +9,7 @@ use Rattle.std.proofs.Math.Path.{refl}
 use Rattle.std.proofs.Common.{◌∙◌, add-suc, arith}
 use borrow.Author.Tests.{ltb-true, lt-ltb, leb-true, le-leb, eqb-true, eq-eqb, not-false}
 use Rattle.theory.specs.Basics.{Bool, true, false, ◌&&◌, List, [], ◌∷◌, ◌++◌, length, get_or, drop, ℕ, suc, ◌+◌, ◌^◌}
-use Rattle.theory.specs.Basics.{◌<?◌, ◌≤?◌, every, same, Each}
+use Rattle.theory.specs.Basics.{◌<?◌, ◌≤?◌, same, Each}
 use Rattle.theory.proofs.Basics.Laws.{both, same_lists, same_self}
 use Rattle.theory.specs.Partition.{Parts, is_partition, degree}
 use Rattle.theory.specs.Refusals.{Check, first_of}

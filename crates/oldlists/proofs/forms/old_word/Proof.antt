@@ -7,7 +7,6 @@ use borrow.Author.Rules.{rules}
 use lib.Count
 use lib.Pow.{pow_pos}
 use Rattle.theory.specs.Basics.{ℕ, ◌+◌, ◌-◌, ◌*◌, ◌%◌, ◌^◌}
-use Rattle.theory.specs.Digits.{digits}
 use Rattle.theory.proofs.Digits.Laws.{word_below, word_none, one_shifted}
 use Rattle.theory.proofs.Digits.Low.{trailing-more}
 use Rattle.theory.specs.ClassWord.{class_digits, class_word}

@@ -8,15 +8,22 @@ import sys
 
 BACK = {"ranges": "fits", "true": "taken", "false": "left", "requires": "pre", "invariant": "inv", "ensures": "post",
         "branch": "came", "init": "holds", "preserved": "again", "smaller": "less", "new": "now"}
+FORTH = {"pre": "requires", "inv": "invariant", "taken": "true", "left": "false", "post": "ensures", "came": "branch-raw"}
 changed = 0
-for line in open(sys.argv[1], encoding="utf-8"):
+for line in re.sub(r"\n  ", " — ", open(sys.argv[1], encoding="utf-8").read()).split("\n"):
     m = re.match(r"(?:so far: )?(\S+?):(\d+):(\d+): error: .*record `[^`]*` has no field `([\w-]+)`(.*)", line)
     if not m:
         continue
     path, at, column, field, rest = m[1], int(m[2]) - 1, int(m[3]) - 1, m[4], m[5]
     old = BACK.get(field)
+    generated = re.search(r"record `[^`]*\.Lts\.", line)
+    only = re.search(r"\.Lts\.Last-\d+` has no field `\d+` — the fields that can be named here are `([^`]*)`$", line.strip())
     near = re.search(r"nearest: \.([\w-]+)\)", rest)
-    if old and f"`{old}`" in rest:
+    if generated and field in FORTH:
+        new = FORTH[field]
+    elif only:
+        field, new = field + ".0", only[1]
+    elif old and f"`{old}`" in rest:
         new = old
     elif near and near[1].replace("-", "_") == field.replace("-", "_") or near and near[1].startswith(field.replace("-", "_") + "-"):
         new = near[1]

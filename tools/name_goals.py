@@ -20,6 +20,35 @@ def plain(name):
     return re.sub(r"^(overflow|nonzero|offset_bounds|bounds)[-_]", "", name).replace("-", "_")
 
 
+def base(name):
+    """A goal's older name with neither its number nor what the scripts put before it."""
+    name = re.sub(r"^Need[-_]", "", name).replace("-", "_")
+    name = re.sub(r"^(overflow|nonzero|offset_bounds|bounds)_", "", name)
+    name = re.sub(r"^(part|slice_bounds)_", "part_", name)
+    return re.sub(r"(_\d+)$", "", name)
+
+
+def aligned(mine, theirs, weights):
+    """The best way to lay one list beside the other, in order: which of theirs each of mine is."""
+    best = [[0] * (len(theirs) + 1) for _ in range(len(mine) + 1)]
+    for i in range(len(mine) - 1, -1, -1):
+        for j in range(len(theirs) - 1, -1, -1):
+            same = mine[i] == theirs[j] or re.sub(r"\d+$", "", mine[i]) == re.sub(r"\d+$", "", theirs[j])
+            best[i][j] = max(best[i + 1][j], best[i][j + 1], best[i + 1][j + 1] + weights[i] if same else 0)
+    i = j = 0
+    found = {}
+    while i < len(mine) and j < len(theirs):
+        same = mine[i] == theirs[j] or re.sub(r"\d+$", "", mine[i]) == re.sub(r"\d+$", "", theirs[j])
+        if same and best[i][j] == best[i + 1][j + 1] + weights[i]:
+            found[i] = j
+            i, j = i + 1, j + 1
+        elif best[i + 1][j] >= best[i][j + 1]:
+            i += 1
+        else:
+            j += 1
+    return found
+
+
 class Proof:
     def __init__(self, entry, path, text):
         self.path, self.text, self.said = path, text, []
@@ -64,29 +93,40 @@ class Proof:
                     rf"^({re.escape(answer)} : tie\.)Need-\S+", lambda m: f"{m[1]}Need-{new}", text, count=1, flags=re.M
                 )
         else:
-            said = f"{self.path}: {len(answers)} answers {answers}, {len(self.needs)} goals: {[n for _, n in self.needs]}"
-            self.said.append(said)
-            by = {}
-            for (old, new), place in zip(self.needs, self.asked):
-                by.setdefault(plain(old), (new, place))
-            for answer, kind in kinds.items():
-                if not kind.startswith("Need-"):
-                    continue
-                new, place = by.get(plain(kind[5:]), (kind[5:], None))
-                if place is None:
-                    self.said.append(f"{self.path}: no goal for {answer} : {kind}")
-                self.place_of_goal[answer] = place
-                text = re.sub(
-                    rf"^({re.escape(answer)} : tie\.)Need-\S+", lambda m: f"{m[1]}Need-{new}", text, count=1, flags=re.M
-                )
+            mine = [base(kinds.get(a, a)) for a in answers]
+            theirs = [base(old) for old, _ in self.needs]
+            plainly = [re.search(rf"(?m)^{re.escape(a)} c(?: κs)? = search rules$", text) for a in answers]
+            matched = aligned(mine, theirs, [2 if it else 3 for it in plainly])
+            for k, answer in enumerate(answers):
+                if k in matched:
+                    new, place = self.needs[matched[k]][1], self.asked[matched[k]]
+                    self.place_of_goal[answer] = place
+                    text = re.sub(
+                        rf"^({re.escape(answer)} : tie\.)Need-\S+", lambda m: f"{m[1]}Need-{new}", text, count=1, flags=re.M
+                    )
+                else:
+                    self.said.append(f"{self.path}: no goal for {answer} : {kinds.get(answer)}: taken out")
+                    text = re.sub(rf"(?ms)^{re.escape(answer)} : tie\..*?(?=^\S+ [:(]|^abbrev |^unfoldable |^module |^pub |^-- |\Z)", "", text, count=1)
+                    at = text.index("tie.spec")
+                    text = text[:at] + re.sub(rf"(?<=\s){re.escape(answer)}(?=[\s)])\s?", "", text[at:], count=1)
+            left = [self.needs[k][1] for k in range(len(self.needs)) if k not in matched.values()]
+            if left:
+                self.said.append(f"{self.path}: no answer for {left}")
         self.text = text
 
     def places(self):
-        self.text = re.sub(
-            r"tie\.((?:At|In|After|Then|Else|Joined|Start|Arm|Case)[^\s()]*)",
-            lambda m: "tie." + self.new_place.get(m[1].replace("-", "_"), m[1]),
-            self.text,
-        )
+        def place(m):
+            old = m[1].replace("-", "_")
+            if old in self.new_place:
+                return "tie." + self.new_place[old]
+            # a place that is no longer there: the one before the call
+            before = re.match(r"(After_\w+?)_arg\d*$", old)
+            if before and before[1] in self.new_place:
+                return "tie." + self.parent[self.new_place[before[1]]]
+            return m[0]
+
+        self.new_place.update({old.replace("-", "_"): new for old, new in self.new_place.items()})
+        self.text = re.sub(r"tie\.((?:At|In|After|Then|Else|Joined|Start|Arm|Case)[^\s()]*)", place, self.text)
         for old, new in self.loops:
             self.text = re.sub(
                 rf"(?<![\w-])(tie\.)?(invariant|decreases)-{re.escape(old)}(?![\w-])",
@@ -107,6 +147,15 @@ class Proof:
             m = re.match(r"(?:abbrev )?(\S+) : .*→ tie\.(\S+)[^→\n]*$", block.split("\n", 1)[0])
             if m and m[2] in self.parent:
                 self.gives[m[1]] = m[2]
+            inside = re.match(r"module _ \((\w+) : tie\.([^\s)]+)", block)
+            if inside and inside[2] in self.parent:
+                for line in block.split("\n"):
+                    m = re.match(r"  (?:pub )?(?:abbrev )?(?:pub )?([^\s:=]+) : (?:tie\.([^\s]+)$)?", line)
+                    if m:
+                        takes[m[1]] = inside[2]
+                        if m[2] in self.parent:
+                            self.gives[m[1]] = m[2]
+                continue
             m = re.match(r"(?:abbrev |unfoldable )?(\S+) : \((\w+) : tie\.(\S+?)[ )]", block)
             if not m:
                 m = re.match(r"(?:abbrev |unfoldable )?(\S+) : ()tie\.((?:At|In|After|Then|Else|Joined|Start)\S*)", block)
@@ -125,6 +174,23 @@ class Proof:
             return block
         var = re.match(rf"{re.escape(name or '')} (\w+)[ =]", block)
         at = {}
+        inside = re.match(r"module _ \((\w+) : tie\.([^\s)]+)", block)
+        if inside and inside[2] in self.parent:
+            own = inside[2]
+            at[inside[1]] = own
+            for m in re.finditer(r"^  (?:pub )?(?:abbrev )?([^\s:=]+) : tie\.(\S+)$", block, re.M):
+                if m[2] in self.parent:
+                    at[m[1]] = m[2]
+
+            def led(m):
+                if m[2] in at and m[3] in at:
+                    steps = self.distance(at[m[3]], at[m[2]])
+                    if steps is not None:
+                        return f"{m[1]}{m[2]} = {m[3]}{'.before' * steps}"
+                return m[0]
+
+            block = re.sub(r"^(  )([^\s=]+) = (\w+)(?:\.before)+$", led, block, flags=re.M)
+            takes = {k: v for k, v in takes.items() if not re.search(rf"^  (?:pub )?(?:abbrev )?{re.escape(k)} : ", block, re.M)}
         if place:
             m = re.match(r"(?:abbrev )?\S+ : \((\w+) : tie\.", block)
             at[m[1] if m else (var[1] if var else "c")] = place
@@ -134,6 +200,15 @@ class Proof:
                 at[m[1]] = at[m[2]]
             elif m[4] in self.gives:
                 at[m[1]] = self.gives[m[4]]
+        for m in re.finditer(r"let (\w+) = (\S+) \(.*\)(?:\.before)* in$", block, re.M):
+            if m[2] in self.gives:
+                at[m[1]] = self.gives[m[2]]
+        for m in re.finditer(r"let (\w+) = \((\S+) [^()]*\)((?:\.before)*) in$", block, re.M):
+            if m[2] in self.gives:
+                place_now = self.gives[m[2]]
+                for _ in range(m[3].count(".before")):
+                    place_now = self.parent.get(place_now)
+                at[m[1]] = place_now
         block = re.sub(
             r"let (\w+) = (\w+)((?:\.before)+) in", lambda m: f"let {m[1]} = {m[2]} in" if m[2] in at else m[0], block
         )
@@ -145,18 +220,38 @@ class Proof:
             )
 
         # lemmas that take a place
-        def given(m):
-            if m[1] in takes and m[2] in at:
-                steps = self.distance(at[m[2]], takes[m[1]])
-                if steps is None:
-                    self.said.append(f"{self.path}: {name}: {m[1]} takes {takes[m[1]]}, which is not before {at[m[2]]}")
-                else:
-                    return f"{m[1]} {m[2]}{'.before' * steps}"
-            return m[0]
+        names = "|".join(re.escape(it) for it in sorted(takes, key=len, reverse=True))
+
+        def argument(text, at_index):
+            """The argument that begins here: its text as it is to be, where it ends, and its place."""
+            m = re.compile(r"(\w+)((?:\.before)*)(?![\w.-])").match(text, at_index)
+            if m and m[1] in at:
+                return m[1], m.end(), at[m[1]]
+            m = re.compile(rf"\(({names}) ").match(text, at_index)
+            if m and m[1] in self.gives:
+                inner = argument(text, m.end())
+                if inner and text[inner[1] : inner[1] + 1] == ")":
+                    after = re.compile(r"\)((?:\.before)*)(?![\w.-])").match(text, inner[1])
+                    steps = self.distance(inner[2], takes[m[1]])
+                    if after and steps is not None:
+                        return f"({m[1]} {inner[0]}{'.before' * steps})", after.end(), self.gives[m[1]]
+            return None
 
         if takes:
-            names = "|".join(re.escape(it) for it in sorted(takes, key=len, reverse=True))
-            block = re.sub(rf"(?<![^\s(]) *(?<![\w.-])({names}) (\w+)((?:\.before)*)(?![\w.])".replace(" *", ""), given, block)
+            out, last = [], 0
+            for m in re.finditer(rf"(?<![\w.-])({names}) ", block):
+                if m.start() < last:
+                    continue
+                given = argument(block, m.end())
+                if given is None:
+                    continue
+                steps = self.distance(given[2], takes[m[1]])
+                if steps is None:
+                    self.said.append(f"{self.path}: {name}: {m[1]} takes {takes[m[1]]}, which is not before {given[2]}")
+                    continue
+                out += [block[last : m.end()], given[0], ".before" * steps]
+                last = given[1]
+            block = "".join(out) + block[last:]
 
         # steps
         def path(m):
@@ -169,8 +264,13 @@ class Proof:
                 return m[0]
             step, more = rest[befores].replace("-", "_"), rest[befores + 1 :]
             new = self.joins[step] if more[:1] == ["branch"] and step in self.joins else self.steps.get(step, rest[befores])
-            if len(more) > 2 and more[0] == "new" and more[1].isdigit() and more[2] == "0" and new in self.written:
-                more = ["new", self.written[new][int(more[1])], *more[3:]]
+            if more[:1] == ["new"] and new in self.written:
+                # the old values were nested pairs, one for each parameter
+                ones = 1
+                while ones < len(more) and more[ones] == "1":
+                    ones += 1
+                if ones < len(more) and more[ones] == "0" and ones - 1 < len(self.written[new]):
+                    more = ["new", self.written[new][ones - 1], *more[ones + 1 :]]
             if more and more[0] in self.fields.get(new, {}):
                 more = [self.fields[new][more[0]], *more[1:]]
             if root in at or not root:
@@ -183,8 +283,10 @@ class Proof:
         gives = "|".join(re.escape(it) for it in self.gives)
         if gives:
             block = re.sub(rf"(\((?:{gives}) \w+(?:\.before)*\))((?:\.{LOGIC})+)", lambda m: m[1] + path(re.match("(.*)", m[2])), block)
-        # a negated test says what its operand is, and a join has its two ways as a sum too
-        block = re.sub(r"not-(?:false|true) _ (\w+\.if-not-[^\s.()]+\.(?:false|true))", r"\1", block)
+        # a signed number of a loop is a number now, beside its bits
+        block = re.sub(r"(to_z w\d+ (?:[^\s.()]+\.)*(?:loop[\w-]*|l)\.\w+)(?![\w.-])", r"\1-bits", block)
+        block = re.sub(r"to_z-of_z \(search rules\)", "to_z-of_z {w = w64} (search rules)", block)
+        # a join has its two ways as a sum too
         return re.sub(r"(\w+\.[^\s.()]+\.branch)(?![\w-])", r"\1-raw", block)
 
 

@@ -47,7 +47,7 @@ module _ {w : ℕ} (s : Within degree_limit w) where
 
 module _ {w : ℕ} (c : WithinClass degree_limit w) where
   class-short : length (class_of w) ≤ 16
-  class-short = omega (arith, c.small, length-degree (class_of w) c.well-formed.partition)
+  class-short = omega (arith, c.small, length-degree (class_of w) c.good.partition)
 
   pub class-parts : {k : CountAnswer} {parts : List ℕ} → Outcome (class_parts_into degree_limit w (replicate 16 0)) k parts
       → FrontGiven (class_of w) k parts

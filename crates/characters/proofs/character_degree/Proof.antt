@@ -13,23 +13,23 @@ use Rattle.characters.proofs.Lengths.{degree-carried}
 use Rattle.characters.proofs.character_degree.Statement.{statement}
 use Rattle.characters.proofs.character_degree.Tie as tie
 
-read-requires : tie.Need-read-requires
+read-requires : tie.Need-read-read-requires
 read-requires c κs = search rules
 
-returns : tie.Need-returns
+returns : tie.Need-returns-then-read-ne0
 unfolding shape_character_degree
 returns c =
-    let a = c.before.before in
-    let s = a.before.args.shape in
-    number-refused (shape_checks degree_limit s) _ _ (reading-number degree_limit s a.read.result a.read.ensures)
-    c.if1.true
+    let a = c in
+    let s = a.args.shape in
+    number-refused (shape_checks degree_limit s) _ _ (reading-number degree_limit s a.read-read.result a.read-read.ensures)
+    c.if-read-ne0.true
 
-pass : (c : tie.Else1)
-    → let a = c.before.before in
-    ShapeRead degree_limit a.before.args.shape a.read.result
+pass : (c : tie.Else-read-ne0)
+    → let a = c in
+    ShapeRead degree_limit a.args.shape a.read-read.result
 pass c =
-    let a = c.before.before in
-    shape-read degree_limit a.before.args.shape a.read.result a.read.ensures c.if1.false
+    let a = c in
+    shape-read degree_limit a.args.shape a.read-read.result a.read-read.ensures c.if-read-ne0.false
 
 quotient-requires : tie.Need-quotient-requires
 quotient-requires c κs =
@@ -38,13 +38,13 @@ quotient-requires c κs =
     let n = p.degree ∙ sym (ap degree (read-shape p)) in
     (omega (arith, w.good.below), n, omega (arith, n, w.small))
 
-returns-2 : tie.Need-returns-2
+returns-2 : tie.Need-returns
 unfolding shape_character_degree
 returns-2 c =
     let p = pass c.before in
-    let s = c.before.before.before.before.args.shape in
+    let s = c.args.shape in
     number-given (shape_checks degree_limit s) _ _ p.none
     (rw c.quotient.ensures (degree-carried (omega arith) (read-within p) ∙ ap character_degree (read-shape p)))
 
-pub character-degree-spec : {M : Type 1} → statement M
-character-degree-spec = tie.close (tie.spec read-requires returns quotient-requires returns-2)
+pub character_degree_spec : {M : Type 1} → statement M
+character_degree_spec = tie.close (tie.spec read-requires returns quotient-requires returns-2)

@@ -12,52 +12,52 @@ use Rattle.gathered.proofs.Previews.{page-refuses, no-such-line, alone-previews}
 use Rattle.gathered.proofs.preview.Statement.{statement}
 use Rattle.gathered.proofs.preview.Tie as tie
 
-refusal-requires : tie.Need-refusal-requires
+refusal-requires : tie.Need-refusal-refused-requires
 refusal-requires c κs = search rules
 
-returns : tie.Need-returns
-returns c = page-refuses _ _ _ _ _ _ _ _ c.before.refusal.ensures c.if1.true
+returns : tie.Need-returns-then-refused-ne0
+returns c = page-refuses _ _ _ _ _ _ _ _ c.refusal-refused.ensures c.if-refused-ne0.true
 
-none : (c : tie.Else1)
-    → let a = c.before.before.before.before.args in
+none : (c : tie.Else-refused-ne0)
+    → let a = c.args in
     first_of (page_checks_in gathered_mode degree_limit a.slip (a.page.now, a.coefficients.now)) ≡ 0
-none c = sym c.before.refusal.ensures ∙ c.if1.false
+none c = sym c.refusal-refused.ensures ∙ c.if-refused-ne0.false
 
-pass : (c : tie.Else1) → let a = c.before.before.before.before.args in
+pass : (c : tie.Else-refused-ne0) → let a = c.args in
     Passed degree_limit a.slip a.page.now a.coefficients.now
 pass c = passed _ _ _ _ (none c)
 
-returns-2 : tie.Need-returns-2
-returns-2 c = no-such-line _ _ _ _ _ _ _ (none c.before.before) (omega (arith, c.if2.true))
+returns-2 : tie.Need-returns-then-slip-line
+returns-2 c = no-such-line _ _ _ _ _ _ _ (none c.before.before) (omega (arith, c.if-slip-line.true))
 
-mul-word : tie.Need-overflow-mul-word
+mul-word : tie.Need-offset_bounds-page-line
 mul-word c =
     let p = pass c.before.before in
-    omega (arith, p.short, p.soundness.fit, c.if2.false)
+    omega (arith, p.short, p.soundness.fit, c.if-slip-line.false)
 
-shared-slice-read-word : tie.Need-shared-slice-read-word
-shared-slice-read-word c = omega (arith, (pass c.before.before.before).soundness.fit, c.before.if2.false)
+shared-slice-read-word : tie.Need-bounds-page-line
+shared-slice-read-word c = omega (arith, (pass c.before.before.before).soundness.fit, c.if-slip-line.false)
 
 alone-requires : tie.Need-alone-requires
 alone-requires c κs = search rules
 
-slice-aggregate-preview : tie.Need-slice-aggregate-preview
+slice-aggregate-preview : tie.Need-slice_bounds-preview-end
 slice-aggregate-preview c = search rules
 
 preview-requires : tie.Need-preview-requires
 preview-requires c κs = search rules
 
-same_length : tie.Need-same-length
+same_length : tie.Need-shape_of-strip
 same_length c = search rules
 
-returns-3 : tie.Need-returns-3
+returns-3 : tie.Need-returns
 returns-3 c =
-    let else2 = c.before.before.before.before.before.before.before in
-    alone-previews _ _ _ _ _ _ _ (none else2.before.before) else2.if2.false 0 (omega arith) _
-    c.before.before.before.before.before.alone.ensures c.before.before.preview.ensures
+    let else2 = c in
+    alone-previews _ _ _ _ _ _ _ (none else2.before.before.before.before.before.before.before.before.before) else2.if-slip-line.false 0 (omega arith) _
+    c.alone.ensures c.preview.ensures
 
-pub preview-spec : {M : Type 1} → statement M
-preview-spec =
+pub preview_spec : {M : Type 1} → statement M
+preview_spec =
     tie.close
     (tie.spec
     refusal-requires

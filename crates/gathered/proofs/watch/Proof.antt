@@ -30,28 +30,28 @@ small : degree_limit ≤ largest_limit
 small = omega arith
 
 -- where nothing was refused, the arguments
-abbrev begin : tie.Else1 → tie.Start
+abbrev begin : tie.Else-refused-ne0 → tie.Start
 begin c = c.before.before.before
 
-watch-refusal-requires : tie.Need-watch-refusal-requires
+watch-refusal-requires : tie.Need-watch_refusal-refused-requires
 watch-refusal-requires c κs = search rules
 
-returns : tie.Need-returns
-returns c = watch-refused gathered-lawful _ _ _ _ _ _ c.before.watch-refusal.ensures c.if1.true
+returns : tie.Need-returns-then-refused-ne0
+returns c = watch-refused gathered-lawful _ _ _ _ _ _ c.watch_refusal-refused.ensures c.if-refused-ne0.true
 
-passed : (c : tie.Else1) → let a = (begin c).args in
+passed : (c : tie.Else-refused-ne0) → let a = (begin c).args in
     Watching gathered-lawful degree_limit a.slip (a.page.now, a.coefficients.now) a.kind a.line
 passed c =
     let a = (begin c).args in
     watching gathered-lawful degree_limit a.slip (a.page.now, a.coefficients.now) a.kind a.line _
-    c.before.watch-refusal.ensures c.if1.false
+    c.watch_refusal-refused.ensures c.if-refused-ne0.false
 
-lent : (c : tie.Else1) → let a = (begin c).args in
+lent : (c : tie.Else-refused-ne0) → let a = (begin c).args in
     Passed degree_limit a.slip a.page.now a.coefficients.now
 lent c = lent-passed _ _ _ _ (passed c).lent (passed c).soundness
 
 -- the line that is named, its coefficient as it is handed on
-module _ (c : tie.Else1) (of-line : (begin c).args.kind ≤ 2) where
+module _ (c : tie.Else-refused-ne0) (of-line : (begin c).args.kind ≤ 2) where
   abbrev words : List ℕ
   words = (begin c).args.page.now
 
@@ -79,91 +79,91 @@ module _ (c : tie.Else1) (of-line : (begin c).args.kind ≤ 2) where
   room : line_value (weighted (word_at words line) (coefficient_at column line)) < 2 ^ 63
   room = line-room degree_limit (begin c).args.slip words column (lent c) line there small
 
-mul-signed-character : tie.Need-overflow-mul-signed-character
+mul-signed-character : tie.Need-offset_bounds-page-line
 mul-signed-character c = index c.before (omega arith)
 
-shared-slice-read-signed-character : tie.Need-shared-slice-read-signed-character
+shared-slice-read-signed-character : tie.Need-bounds-page-line
 shared-slice-read-signed-character c = (inside c.before.before (omega arith)).0
 
-mul-signed-character-2 : tie.Need-overflow-mul-signed-character-2
+mul-signed-character-2 : tie.Need-offset_bounds-coefficients-line
 mul-signed-character-2 c = index c.before.before (omega arith)
 
-shared-slice-copy-out-signed-character : tie.Need-shared-slice-copy-out-signed-character
+shared-slice-copy-out-signed-character : tie.Need-bounds-coefficients-line
 shared-slice-copy-out-signed-character c = (inside c.before.before (omega arith)).1
 
-signed-character-requires : tie.Need-signed-character-requires
+signed-character-requires : tie.Need-signed_character-requires
 signed-character-requires c κs =
-    let else1 = c.before.before.before in
-    handed-sound _ _ (is-sound else1 (omega arith)) (room else1 (omega arith))
+    let else1 = c in
+    handed-sound _ _ (is-sound else1.before.before.before (omega arith)) (room else1.before.before.before (omega arith))
 
-mul-ratio : tie.Need-overflow-mul-ratio
+mul-ratio : tie.Need-offset_bounds-page-line-in-2
 mul-ratio c = index c.before (omega arith)
 
-shared-slice-read-ratio : tie.Need-shared-slice-read-ratio
+shared-slice-read-ratio : tie.Need-bounds-page-line-in-2
 shared-slice-read-ratio c = (inside c.before.before (omega arith)).0
 
 ratio-requires : tie.Need-ratio-requires
 ratio-requires c κs = sound-weighing _ _ (pos 1) (is-sound c.before.before (omega arith))
 
-slice-aggregate-sum : tie.Need-slice-aggregate-sum
-slice-aggregate-sum c = sym (front-words _ _ _ _ (lent c.before.before))
+slice-aggregate-sum : tie.Need-slice_bounds-sum-end
+slice-aggregate-sum c = sym (front-words _ _ _ _ (lent c.before))
 
-slice-aggregate-sum-2 : tie.Need-slice-aggregate-sum-2
-slice-aggregate-sum-2 c = sym (front-column _ _ _ _ (lent c.before.before.before))
+slice-aggregate-sum-2 : tie.Need-slice_bounds-sum-end-in-4
+slice-aggregate-sum-2 c = sym (front-column _ _ _ _ (lent c.before))
 
 sum-requires : tie.Need-sum-requires
 sum-requires c κs =
-    let p = lent c.before.before.before in (
+    let p = lent c.before in (
       front-words _ _ _ _ p ∙ sym (front-column _ _ _ _ p),
       lines-within _ _ _ _ p,
       waiting-fits _ small _ _ p.soundness.lines,
     )
 
-returns-2 : tie.Need-returns-2
+returns-2 : tie.Need-returns-in-1
 unfolding shown_in
 returns-2 c =
-    let else1 = c.before.before.before.before in
-    let of-line : (begin else1).args.kind ≤ 2 = omega arith in
-    let is = handed-carried _ _ (is-sound else1 of-line) (room else1 of-line) _ c.signed-character.ensures in
-    let read = line_read _ _ _ _ (lent else1) _ (there else1 of-line) in
-    shows-by gathered-lawful _ _ _ _ _ (passed else1) 1 (omega arith) _
+    let else1 = c in
+    let of-line : (begin else1.before.before.before.before).args.kind ≤ 2 = omega arith in
+    let is = handed-carried _ _ (is-sound else1.before.before.before.before of-line) (room else1.before.before.before.before of-line) _ c.signed_character.ensures in
+    let read = line_read _ _ _ _ (lent else1.before.before.before.before) _ (there else1.before.before.before.before of-line) in
+    shows-by gathered-lawful _ _ _ _ _ (passed else1.before.before.before.before) 1 (omega arith) _
     (ap whole (is ∙ ap signed_character (sym read)))
 
-returns-3 : tie.Need-returns-3
+returns-3 : tie.Need-returns-in-2
 unfolding shown_in
 returns-3 c =
-    let else1 = c.before.before.before in
-    let own = own_read _ _ _ _ (lent else1) _ (there else1 (omega arith)) in
+    let else1 = c in
+    let own = own_read _ _ _ _ (lent else1.before.before.before) _ (there else1.before.before.before (omega arith)) in
     c.ratio.ensures
-    ∙ shows-by gathered-lawful _ _ _ _ _ (passed else1) 2 (omega arith) _ (ap quotient (ap ratio own))
+    ∙ shows-by gathered-lawful _ _ _ _ _ (passed else1.before.before.before) 2 (omega arith) _ (ap quotient (ap ratio own))
 
-returns-4 : tie.Need-returns-4
+returns-4 : tie.Need-returns-in-3
 unfolding shown_in
 returns-4 c =
-    let else1 = c.before.before in
-    let settled : SFits w64 (begin else1).args.slip.settled = search rules in
-    shows-by gathered-lawful _ _ _ _ _ (passed else1) 3 (omega arith) _ (ap whole (to_z-of_z settled))
+    let else1 = c in
+    let settled : SFits w64 (begin else1.before.before).args.slip.settled = search rules in
+    shows-by gathered-lawful _ _ _ _ _ (passed else1.before.before) 3 (omega arith) _ (ap whole (to_z-of_z settled))
 
-returns-5 : tie.Need-returns-5
+returns-5 : tie.Need-returns-in-4
 unfolding shown_in
 returns-5 c =
-    let else1 = c.before.before.before.before in
-    let w = passed else1 in
+    let else1 = c in
+    let w = passed else1.before.before in
     let is = ap carried c.sum.ensures ∙ waiting-carried _ small _ _ w.soundness.lines in
     shows-by gathered-lawful _ _ _ _ _ w 4 (omega arith) _ (ap whole is)
 
-returns-6 : tie.Need-returns-6
+returns-6 : tie.Need-returns-in_default
 unfolding shown_in
 returns-6 c =
-    let others = c.before in
-    let w = passed others.before in
-    let steps : SFits w64 (begin others.before).args.slip.steps = search rules in
-    let rest = others.match.rest in
+    let others = c in
+    let w = passed others.before.before in
+    let steps : SFits w64 (begin others.before.before).args.slip.steps = search rules in
+    let rest = others.in_default.in_default-own.rest in
     let fifth = last-kind _ w.some w.within rest.0.0.0.1 rest.0.0.1 rest.0.1 rest.1 in
     shows-by gathered-lawful _ _ _ _ _ w 5 fifth _ (ap whole (to_z-of_z steps))
 
-pub watch-spec : {M : Type 1} → statement M
-watch-spec =
+pub watch_spec : {M : Type 1} → statement M
+watch_spec =
     tie.close
     (tie.spec
     watch-refusal-requires

@@ -17,52 +17,52 @@ small : degree_limit ≤ largest_limit
 small = omega arith
 
 -- ---- where the named line and cycle have passed
-abbrev begin : tie.Else1 → tie.Start
+abbrev begin : tie.Else-named-ne0 → tie.Start
 begin c = c.before.before.before.before.before
 
-chosen : (c : tie.Else1) → let a = (begin c).args in
-    Chosen degree_limit a.slip a.page.now a.line a.cycle c.before.before.class-left.result
-chosen c = chosen_by _ _ _ _ _ _ c.before.before.class-left.ensures c.if1.false
+chosen : (c : tie.Else-named-ne0) → let a = (begin c).args in
+    Chosen degree_limit a.slip a.page.now a.line a.cycle c.class_left-named.result
+chosen c = chosen_by _ _ _ _ _ _ c.class_left-named.ensures c.if-named-ne0.false
 
 -- ---- the code
-class-left-requires : tie.Need-class-left-requires
+class-left-requires : tie.Need-class_left-named-requires
 class-left-requires c κs = search rules
 
-returns : tie.Need-returns
-returns c = strike-refused _ small _ _ _ _ _ _ c.before.before.class-left.ensures c.if1.true
+returns : tie.Need-returns-then-named-ne0
+returns c = strike-refused _ small _ _ _ _ _ _ c.class_left-named.ensures c.if-named-ne0.true
 
-mul-strip : tie.Need-overflow-mul-strip
+mul-strip : tie.Need-offset_bounds-page-line
 mul-strip c =
     let n = (chosen c).named in
-    omega (arith, (begin c).well-formed.1.0.1, n.there, n.soundness.fit)
+    omega (arith, (begin c).well_formed.1.0.1, n.there, n.soundness.fit)
 
-shared-slice-read-strip : tie.Need-shared-slice-read-strip
+shared-slice-read-strip : tie.Need-bounds-page-line
 shared-slice-read-strip c =
     let n = (chosen c.before).named in
     omega (arith, n.there, n.soundness.fit)
 
-cast-strip : tie.Need-overflow-cast-strip
+cast-strip : tie.Need-overflow_cast-cycle
 cast-strip c =
     let k = chosen c.before in
     let room = strikes _ small _ _ _ _ k.named _ (replicate degree_limit 0) k.class-left refl in
     record { fits = omega (arith, cycle-short _ _ _ _ room) }
 
-strip-requires : tie.Need-strip-requires
+strip-requires : tie.Need-strip-hooks-requires
 strip-requires c κs =
     let k = chosen c.before.before in
     strikes _ small _ _ _ _ k.named _ _ k.class-left (begin c.before.before).requires
 
-same_length : tie.Need-same-length
+same_length : tie.Need-shape_of-strip
 same_length c = search rules
 
-returns-2 : tie.Need-returns-2
+returns-2 : tie.Need-returns
 returns-2 c =
-    let else1 = c.before.before.before.before.before.before in
-    let k = chosen else1 in
-    struck-onto _ small _ _ _ _ k.named k.none _ _ _ c.before.before.before.strip.ensures
+    let else1 = c in
+    let k = chosen else1.before.before.before.before.before.before in
+    struck-onto _ small _ _ _ _ k.named k.none _ _ _ c.strip-hooks.ensures
 
-pub strike-spec : {M : Type 1} → statement M
-strike-spec =
+pub strike_spec : {M : Type 1} → statement M
+strike_spec =
     tie.close
     (tie.spec
     class-left-requires

@@ -21,76 +21,76 @@ use Rattle.sessiontext.proofs.save.Statement.{statement}
 use Rattle.sessiontext.proofs.save.Tie as tie
 
 -- ---- what the judge tells
-none : (c : tie.Else1) → let a = c.before.before.before.before.args in
+none : (c : tie.Else-refused-ne0) → let a = c.args in
     first_of (page_checks degree_limit a.slip a.page.now) ≡ 0
-none c = sym c.before.refusal.ensures ∙ c.if1.false
+none c = sym c.refusal-refused.ensures ∙ c.if-refused-ne0.false
 
-passed : (c : tie.Else1) → let a = c.before.before.before.before.args in
+passed : (c : tie.Else-refused-ne0) → let a = c.args in
     (first_of (plain_mode.lent_checks a.page.now) ≡ 0) × Sound degree_limit a.slip a.page.now
 unfolding plain-lawful
 passed c = passed-page plain-lawful degree_limit _ _ (none c)
 
-sound : (c : tie.Else1) → let a = c.before.before.before.before.args in Sound degree_limit a.slip a.page.now
+sound : (c : tie.Else-refused-ne0) → let a = c.args in Sound degree_limit a.slip a.page.now
 sound c = (passed c).1
 
 fits : (c : tie.Start) → length c.args.text.now ≤ most
 fits c = omega arith
 
-storable : (c : tie.Else1) → let a = c.before.before.before.before.args in
+storable : (c : tie.Else-refused-ne0) → let a = c.args in
     Storable degree_limit a.slip (waiting a.slip a.page.now)
 storable c =
     sound-storable plain-faithful (sound c) (passed c).0
 
-refusal-requires : tie.Need-refusal-requires
+refusal-requires : tie.Need-refusal-refused-requires
 refusal-requires c κs = search rules
 
-returns : tie.Need-returns
+returns : tie.Need-returns-then-refused-ne0
 returns c =
-    let j = c.before in
-    let a = j.before.before.before.args in
-    page-refuses plain-faithful a.slip a.page.now a.text.now j.refusal.result j.refusal.ensures
-    c.if1.true
+    let j = c in
+    let a = j.args in
+    page-refuses plain-faithful a.slip a.page.now a.text.now j.refusal-refused.result j.refusal-refused.ensures
+    c.if-refused-ne0.true
 
-slice-aggregate-has-room : tie.Need-slice-aggregate-has-room
-slice-aggregate-has-room c = sym (length-take-le _ _ (sound c.before).fit)
+slice-aggregate-has-room : tie.Need-slice_bounds-has_room-end
+slice-aggregate-has-room c = sym (length-take-le _ _ (sound c).fit)
 
-has-room-requires : tie.Need-has-room-requires
+has-room-requires : tie.Need-has_room-requires
 has-room-requires c κs =
-    let e = c.before in
-    let a = e.before.before.before.before.args in
+    let e = c in
+    let a = e.args in
     let long = length-take-le a.slip.lines a.page.now (sound e).fit in
     (storable e, omega (arith, plain-lawful.short a.page.now (passed e).0, (sound e).fit, long))
 
-returns-2 : tie.Need-returns-2
+returns-2 : tie.Need-returns-then-not-has_room
 returns-2 c =
-    let r = c.before in
-    let e = r.before.before in
-    let a = e.before.before.before.before.args in
-    room-refuses plain-faithful a.slip a.page.now a.text.now (none e)
-    (leb-false _ _ (sym r.has_room.ensures ∙ not-true _ c.if2.true))
+    let r = c in
+    let e = r in
+    let a = e.args in
+    room-refuses plain-faithful a.slip a.page.now a.text.now (none e.before.before)
+    (leb-false _ _ (sym r.has_room.ensures ∙ not-true _ c.if-not-has_room.true-raw))
 
-slice-aggregate-session : tie.Need-slice-aggregate-session
-slice-aggregate-session c = sym (length-take-le _ _ (sound c.before.before.before.before).fit)
+slice-aggregate-session : tie.Need-slice_bounds-session-end
+slice-aggregate-session c = sym (length-take-le _ _ (sound c.before.before).fit)
 
 session-requires : tie.Need-session-requires
-session-requires c κs = storable c.before.before.before.before.before
+session-requires c κs = storable c.before.before.before
 
-same_length : tie.Need-same-length
+same_length : tie.Need-shape_of-text
 same_length c = search rules
 
-returns-3 : tie.Need-returns-3
+returns-3 : tie.Need-returns
 returns-3 c =
-    let w = c.before.before in
-    let i = w.before.before.before in
-    let r = i.before in
-    let e = r.before.before in
-    let a = e.before.before.before.before.args in
-    saves plain-faithful a.slip a.page.now a.text.now (none e)
-    (leb-true _ _ (sym r.has_room.ensures ∙ not-false _ i.if2.false)) (fits e.before.before.before.before)
+    let w = c in
+    let i = w in
+    let r = i in
+    let e = r in
+    let a = e.args in
+    saves plain-faithful a.slip a.page.now a.text.now (none e.before.before.before.before.before.before)
+    (leb-true _ _ (sym r.has_room.ensures ∙ not-false _ i.if-not-has_room.false-raw)) (fits e.before.before.before.before.before.before.before.before.before.before)
     w.session.ensures
 
-pub save-spec : {M : Type 1} → statement M
-save-spec =
+pub save_spec : {M : Type 1} → statement M
+save_spec =
     tie.close
     (tie.spec
     refusal-requires

@@ -12,64 +12,56 @@ use Rattle.tabletext.proofs.answer.Statement.{statement}
 use Rattle.tabletext.proofs.answer.Tie as tie
 
 -- ---- what is to be written, as the tests tell
-nothing : (c : tie.Then1)
-    → chartable degree_limit c.before.before.before.args.input.now ≡ field "refused=" (decimal 13)
+nothing : (c : tie.Then-degree-eq-NONE)
+    → chartable degree_limit c.args.input.now ≡ field "refused=" (decimal 13)
 nothing c =
-    let a = c.before in
-    asks_nothing degree_limit _ (nothing_read _ a.asked.result a.asked.ensures c.if1.true)
+    let a = c in
+    asks_nothing degree_limit _ (nothing_read _ a.asked-degree.result a.asked-degree.ensures c.if-degree-eq-NONE.true)
 
-too_much : (c : tie.Then2)
-    → chartable degree_limit c.before.before.before.before.args.input.now ≡ field "refused=" (decimal 12)
+too_much : (c : tie.Then-degree-gt-LIMIT)
+    → chartable degree_limit c.args.input.now ≡ field "refused=" (decimal 12)
 too_much c =
-    let a = c.before.before in
-    let n = number_read _ a.asked.result a.asked.ensures c.before.if1.false in
-    asks-too-much degree_limit _ a.asked.result n c.if2.true
+    let a = c in
+    let n = number_read _ a.asked-degree.result a.asked-degree.ensures c.if-degree-eq-NONE.false in
+    asks-too-much degree_limit _ a.asked-degree.result n c.if-degree-gt-LIMIT.true
 
-whole : (c : tie.Else2) → let n = c.before.before.asked.result in
-    chartable degree_limit c.before.before.before.before.args.input.now ≡ table n (listing n)
+whole : (c : tie.Else-degree-gt-LIMIT) → let n = c.asked-degree.result in
+    chartable degree_limit c.args.input.now ≡ table n (listing n)
 whole c =
-    let a = c.before.before in
-    let n = number_read _ a.asked.result a.asked.ensures c.before.if1.false in
-    asks-for degree_limit _ a.asked.result n c.if2.false
+    let a = c in
+    let n = number_read _ a.asked-degree.result a.asked-degree.ensures c.if-degree-eq-NONE.false in
+    asks-for degree_limit _ a.asked-degree.result n c.if-degree-gt-LIMIT.false
 
-asked-requires : tie.Need-asked-requires
+asked-requires : tie.Need-asked-degree-requires
 asked-requires c κs = search rules
-
-slice-aggregate-number : tie.Need-slice-aggregate-number
-slice-aggregate-number c = search rules
 
 number-requires : tie.Need-number-requires
 number-requires c κs = search rules
 
-returns : tie.Need-returns
+returns : tie.Need-returns-then-degree-eq-NONE
 returns c =
-    answered _ _ c.before.number-arg2.given.0.1 (nothing c.before.before.before) c.number.ensures
+    answered _ _ c.number-arg-then-degree-eq-NONE-2-1.given.0.1 (nothing c.before.before.before.before) c.number.ensures
 
-slice-aggregate-number-2 : tie.Need-slice-aggregate-number-2
-slice-aggregate-number-2 c = search rules
-
-number-requires-2 : tie.Need-number-requires-2
+number-requires-2 : tie.Need-number-requires-then-degree-gt-LIMIT
 number-requires-2 c κs = search rules
 
-returns-2 : tie.Need-returns-2
+returns-2 : tie.Need-returns-then-degree-gt-LIMIT
 returns-2 c =
-    answered _ _ c.before.number-arg4.given.0.1 (too_much c.before.before.before) c.number2.ensures
+    answered _ _ c.number-arg-then-degree-gt-LIMIT-3-1.given.0.1 (too_much c.before.before.before.before) c.number-then-degree-gt-LIMIT.ensures
 
 table-requires : tie.Need-table-requires
 table-requires c κs = search rules
 
-returns-3 : tie.Need-returns-3
-returns-3 c = answered _ _ c.before.table-arg.given.0.1 (whole c.before.before) c.table.ensures
+returns-3 : tie.Need-returns
+returns-3 c = answered _ _ c.table-arg-1.given.0.1 (whole c.before.before) c.table.ensures
 
-pub answer-spec : {M : Type 1} → statement M
-answer-spec =
+pub answer_spec : {M : Type 1} → statement M
+answer_spec =
     tie.close
     (tie.spec
     asked-requires
-    slice-aggregate-number
     number-requires
     returns
-    slice-aggregate-number-2
     number-requires-2
     returns-2
     table-requires

@@ -11,68 +11,68 @@ use borrow.Author.Rules.{rules}
 use Rattle.textreading.proofs.list_in.Statement.{statement}
 use Rattle.textreading.proofs.list_in.Tie as tie
 
-abbrev invariant-loop : tie.invariant-loop
-invariant-loop text column₀ number₀ count₀ i₀ column number count i =
+abbrev invariant-loop-i : tie.invariant-loop-i
+invariant-loop-i text column₀ number₀ count₀ i₀ column number count i =
     (i ≤ length text) × Reached text column₀ i number count column
 
-abbrev decreases-loop : tie.decreases-loop
-decreases-loop text column₀ number₀ count₀ i₀ column number count i = length text - i
+abbrev decreases-loop-i : tie.decreases-loop-i
+decreases-loop-i text column₀ number₀ count₀ i₀ column number count i = length text - i
 
-room : (c : tie.At-loop invariant-loop decreases-loop) → length c.before.before.before.args.column.now ≤ most
+room : (c : tie.At-loop-i invariant-loop-i decreases-loop-i) → length c.args.column.now ≤ most
 room c = omega arith
 
-loop-holds : tie.Need-loop-init invariant-loop decreases-loop
+loop-holds : tie.Need-loop-i-init invariant-loop-i decreases-loop-i
 loop-holds c = (omega arith, reached-none _ _)
 
-shared-slice-read-byte : tie.Need-shared-slice-read-byte invariant-loop decreases-loop
+shared-slice-read-byte : tie.Need-bounds-text-i invariant-loop-i decreases-loop-i
 shared-slice-read-byte c = search rules
 
-keep-requires : tie.Need-keep-requires invariant-loop decreases-loop
+keep-requires : tie.Need-keep-count-requires invariant-loop-i decreases-loop-i
 keep-requires c κs = search rules
 
-step-requires : tie.Need-step-requires invariant-loop decreases-loop
+step-requires : tie.Need-step-number-requires invariant-loop-i decreases-loop-i
 step-requires c κs = search rules
 
-add-i : tie.Need-overflow-add-i invariant-loop decreases-loop
+add-i : tie.Need-overflow_add-i invariant-loop-i decreases-loop-i
 add-i c = search rules
 
-loop-less : tie.Need-loop-smaller invariant-loop decreases-loop
+loop-less : tie.Need-loop-i-smaller invariant-loop-i decreases-loop-i
 loop-less c = search rules
 
-loop-again : tie.Need-loop-preserved invariant-loop decreases-loop
+loop-again : tie.Need-loop-i-preserved invariant-loop-i decreases-loop-i
 loop-again c =
-    let t = c.before.before in
-    let l = t.before.loop.invariant.1 in (
+    let t = c in
+    let l = t.loop-i.invariant.1 in (
       omega arith,
       ⊎_elim
           (λ w.
-          rw (w.5, w.6, w.7)
-          (reached-comma _ _ l (room t.before) w.2.ensures t.loop-test.true w.0.taken))
+          rw (w.column-is, w.number-is, w.count-is)
+          (reached-comma _ _ l (room t.before.before.before) w.keep-count.ensures t.loop-i-test.true w.if-byte-eq44.true))
           (λ w.
-          rw (w.2, w.3, w.4) (reached-step _ _ l t.loop-test.true w.0.left w.1.ensures))
-          c.if1.branch,
+          rw (w.column-is, w.number-is, w.count-is) (reached-step _ _ l t.loop-i-test.true w.if-byte-eq44.false w.step-number.ensures))
+          c.if-byte-eq44.branch-raw,
     )
 
-keep-requires-2 : tie.Need-keep-requires-2 invariant-loop decreases-loop
+keep-requires-2 : tie.Need-keep-requires invariant-loop-i decreases-loop-i
 keep-requires-2 c κs = search rules
 
-same_length : tie.Need-same-length invariant-loop decreases-loop
+same_length : tie.Need-shape_of-column invariant-loop-i decreases-loop-i
 same_length c =
-    let k = c.before.before in
-    wrote-length k.keep2.ensures ∙ wrote-length k.before.before.before.loop.invariant.1.wrote
+    let k = c in
+    wrote-length k.keep.ensures ∙ wrote-length k.loop-i.invariant.1.wrote
 
-returns : tie.Need-returns invariant-loop decreases-loop
+returns : tie.Need-returns invariant-loop-i decreases-loop-i
 returns c =
-    let k = c.before.before in
-    let l = k.before.before in
-    reached-all _ _ l.before.loop.invariant.1 (room l.before) k.keep2.ensures l.loop-test.false
+    let k = c in
+    let l = k in
+    reached-all _ _ l.loop-i.invariant.1 (room l.before.before.before.before.before) k.keep.ensures l.loop-i-test.false
 
-pub list-in-spec : {M : Type 1} → statement M
-list-in-spec =
+pub list_in_spec : {M : Type 1} → statement M
+list_in_spec =
     tie.close
     (tie.spec
-    invariant-loop
-    decreases-loop
+    invariant-loop-i
+    decreases-loop-i
     loop-holds
     shared-slice-read-byte
     keep-requires

@@ -16,7 +16,7 @@ Silent t = Each (λ b. is_digit b ≡ false) t
 
 pub number_append : (n : ℕ) (t u : Text) → number_from n (t ++ u) ≡ number_from (number_from n t) u
 number_append n [] u = refl
-number_append n (b ∷ t) u = number_append _ t u
+number_append n (b ∷ t) u = number_append (step n b) t u
 
 pub number-silent : (n : ℕ) (t : Text) → Silent t → number_from n t ≡ n
 number-silent n [] s = refl

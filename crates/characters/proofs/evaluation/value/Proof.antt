@@ -18,48 +18,48 @@ small-requires c κs = search rules
 
 look-requires : tie.Need-look-requires
 look-requires c κs =
-    let a = c.before.before in
-    let few = leb-true _ table_limit (sym c.before.small.ensures ∙ c.if1.true) in
+    let a = c in
+    let few = leb-true _ table_limit (sym c.small.ensures ∙ c.if-small.true) in
     (record { below = a.requires.0; small = few }, a.requires.1)
 
-returns : tie.Need-returns
-returns c = rw c.look.ensures (character-carried c.before.before.before.requires.1)
+returns : tie.Need-returns-then-small
+returns c = rw c.look.ensures (character-carried c.requires.1)
 
-more : (c : tie.Else1) → table_limit < degree (class_of c.before.before.args.class)
-more c = leb-false _ table_limit (sym c.before.small.ensures ∙ c.if1.false)
+more : (c : tie.Else-small) → table_limit < degree (class_of c.args.class)
+more c = leb-false _ table_limit (sym c.small.ensures ∙ c.if-small.false)
 
-is-identity-requires : tie.Need-is-identity-requires
-is-identity-requires c κs = (omega (arith, more c), c.before.before.requires.0)
+is-identity-requires : tie.Need-is_identity-requires
+is-identity-requires c κs = (omega (arith, more c), c.requires.0)
 
-sub-quotient : tie.Need-overflow-sub-quotient
-sub-quotient c = let p = c.before.before.before.before.requires in degree-place p.0 p.1 (more c.before.before)
+sub-quotient : tie.Need-overflow_sub-class
+sub-quotient c = let p = c.requires in degree-place p.0 p.1 (more c.before.before)
 
 quotient-requires : tie.Need-quotient-requires
 quotient-requires c κs =
-    let p = c.before.before.before.before.requires in
+    let p = c.requires in
     quotient-asked p.0 p.1 (more c.before.before)
 
-returns-2 : tie.Need-returns-2
+returns-2 : tie.Need-returns-then-is_identity
 returns-2 c =
-    let tested = c.before.before in
-    let p = tested.before.before.before.requires in
+    let tested = c in
+    let p = tested.requires in
     rw c.quotient.ensures
-    (quotient-answers p.0 p.1 (more tested.before)
-    (sym tested.is-identity.ensures ∙ c.before.if2.true))
+    (quotient-answers p.0 p.1 (more tested.before.before.before)
+    (sym tested.is_identity.ensures ∙ c.if-is_identity.true))
 
-last-row-requires : tie.Need-last-row-requires
+last-row-requires : tie.Need-last_row-row-requires
 last-row-requires c κs = search rules
 
-hook-walk-requires : tie.Need-hook-walk-requires
+hook-walk-requires : tie.Need-hook_walk-requires
 hook-walk-requires c κs =
-    let tested = c.before.before in
-    let start = tested.before.before.before.before in
-    (start.requires, (c.before.last_row.ensures, more tested.before.before))
+    let tested = c in
+    let start = tested in
+    (start.requires, (c.last_row-row.ensures, more tested.before.before.before.before))
 
-returns-3 : tie.Need-returns-3
+returns-3 : tie.Need-returns
 returns-3 c =
-    let start = c.before.before.before.before.before.before.before in
-    rw c.hook-walk.ensures (character-carried start.requires.1)
+    let start = c in
+    rw c.hook_walk.ensures (character-carried start.requires.1)
 
 pub value_spec : {M : Type 1} → statement M
 value_spec =

@@ -15,30 +15,30 @@ class-requires c κs = search rules
 
 value-requires : tie.Need-value-requires
 value-requires c κs =
-    let start = c.before.before.before in
-    rw (c.before.shape.ensures, c.class.ensures)
+    let start = c in
+    rw (c.shape.ensures, c.class.ensures)
     (class-below start.requires.0, line-evaluable start.requires.0)
 
-add-signed-requires : tie.Need-add-signed-requires
+add-signed-requires : tie.Need-add_signed-requires
 add-signed-requires c κs =
-    let start = c.before.before.before.before in
-    rw (c.value.ensures, c.before.before.shape.ensures, c.before.class.ensures)
+    let start = c in
+    rw (c.value.ensures, c.shape.ensures, c.class.ensures)
     (value_room start.args.line start.requires.0 start.args.sum start.requires.1)
 
 returns : tie.Need-returns
 returns c =
-    let valued = c.before in
-    let start = valued.before.before.before.before in
+    let valued = c in
+    let start = valued in
     rw (
-      c.add-signed.ensures,
+      c.add_signed.ensures,
       valued.value.ensures,
-      valued.before.before.shape.ensures,
-      valued.before.class.ensures,
-      valued.before.before.before.minus.ensures,
+      valued.shape.ensures,
+      valued.class.ensures,
+      valued.minus.ensures,
     )
     (value-added start.args.line start.requires.0 start.args.sum start.requires.1)
 
-pub add-line-spec : {M : Type 1} → statement M
-add-line-spec =
+pub add_line_spec : {M : Type 1} → statement M
+add_line_spec =
     tie.close
     (tie.spec minus-requires shape-requires class-requires value-requires add-signed-requires returns)

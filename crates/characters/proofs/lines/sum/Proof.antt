@@ -12,56 +12,56 @@ use Rattle.characters.proofs.Sums.{Summing, NextLine, sum-start, sum-next, sum-e
 use Rattle.characters.proofs.lines.sum.Statement.{statement}
 use Rattle.characters.proofs.lines.sum.Tie as tie
 
-abbrev invariant-loop : tie.invariant-loop
-invariant-loop lines sum₀ i₀ sum i = Summing largest_limit (map line_of lines) i (to_z w64 sum)
+abbrev invariant-loop-i : tie.invariant-loop-i
+invariant-loop-i lines sum₀ i₀ sum i = Summing largest_limit (map line_of lines) i (to_z w64 sum)
 
-abbrev decreases-loop : tie.decreases-loop
-decreases-loop lines sum₀ i₀ sum i = length lines - i
+abbrev decreases-loop-i : tie.decreases-loop-i
+decreases-loop-i lines sum₀ i₀ sum i = length lines - i
 
-next : (c : tie.In-loop invariant-loop decreases-loop)
-    → let words = c.before.before.before.args.lines.now in
-    let i = c.before.loop.i in
-    NextLine largest_limit (map line_of words) i (to_z w64 c.before.loop.sum) (line_of (get_or words i 0))
+next : (c : tie.In-loop-i invariant-loop-i decreases-loop-i)
+    → let words = c.args.lines.now in
+    let i = c.loop-i.i in
+    NextLine largest_limit (map line_of words) i (to_z w64 c.loop-i.sum-bits) (line_of (get_or words i 0))
 next c =
-    let start = c.before.before.before in
+    let start = c in
     let words = start.args.lines.now in
-    let i = c.before.loop.i in
-    sum-next _ _ start.requires.0 start.requires.1 _ _ c.before.loop.invariant
-    (omega (arith, length-map words line_of, c.loop-test.true)) _ (get_or-map line_of words i 0)
+    let i = c.loop-i.i in
+    sum-next _ _ start.requires.0 start.requires.1 _ _ c.loop-i.invariant
+    (omega (arith, length-map words line_of, c.loop-i-test.true)) _ (get_or-map line_of words i 0)
 
-loop-holds : tie.Need-loop-init invariant-loop decreases-loop
-loop-holds c = sum-start _ _ c.before.requires.0 c.before.requires.1
+loop-holds : tie.Need-loop-i-init invariant-loop-i decreases-loop-i
+loop-holds c = sum-start _ _ c.requires.0 c.requires.1
 
-mul-add-line : tie.Need-overflow-mul-add-line invariant-loop decreases-loop
+mul-add-line : tie.Need-offset_bounds-lines-i invariant-loop-i decreases-loop-i
 mul-add-line c = search rules
 
-shared-slice-read-add-line : tie.Need-shared-slice-read-add-line invariant-loop decreases-loop
+shared-slice-read-add-line : tie.Need-bounds-lines-i invariant-loop-i decreases-loop-i
 shared-slice-read-add-line c = search rules
 
-add-line-requires : tie.Need-add-line-requires invariant-loop decreases-loop
+add-line-requires : tie.Need-add_line-sum-requires invariant-loop-i decreases-loop-i
 add-line-requires c κs = ((next c.before).soundness, (next c.before).room)
 
-add-i : tie.Need-overflow-add-i invariant-loop decreases-loop
+add-i : tie.Need-overflow_add-i invariant-loop-i decreases-loop-i
 add-i c = search rules
 
-loop-less : tie.Need-loop-smaller invariant-loop decreases-loop
+loop-less : tie.Need-loop-i-smaller invariant-loop-i decreases-loop-i
 loop-less c = omega arith
 
-loop-again : tie.Need-loop-preserved invariant-loop decreases-loop
-loop-again c = rw c.add-line.ensures (next c.before.before).again
+loop-again : tie.Need-loop-i-preserved invariant-loop-i decreases-loop-i
+loop-again c = rw c.add_line-sum.ensures (next c.before.before).again
 
-returns : tie.Need-returns invariant-loop decreases-loop
+returns : tie.Need-returns invariant-loop-i decreases-loop-i
 returns c =
-    let start = c.before.before.before in
-    sum-end _ _ start.requires.0 start.requires.1 _ _ c.before.loop.invariant
-    (omega (arith, length-map start.args.lines.now line_of, c.loop-test.false))
+    let start = c in
+    sum-end _ _ start.requires.0 start.requires.1 _ _ c.loop-i.invariant
+    (omega (arith, length-map start.args.lines.now line_of, c.loop-i-test.false))
 
-pub sum-spec : {M : Type 1} → statement M
-sum-spec =
+pub sum_spec : {M : Type 1} → statement M
+sum_spec =
     tie.close
     (tie.spec
-    invariant-loop
-    decreases-loop
+    invariant-loop-i
+    decreases-loop-i
     loop-holds
     mul-add-line
     shared-slice-read-add-line

@@ -9,10 +9,10 @@ use Rattle.characters.proofs.SmallTables.{table-long}
 use Rattle.characters.proofs.small_tables.row_of_four.Statement.{statement}
 use Rattle.characters.proofs.small_tables.row_of_four.Tie as tie
 
-mul-result : tie.Need-overflow-mul-result
+mul-result : tie.Need-offset_bounds-rank
 mul-result c = search rules
 
-array-copy-out-result : tie.Need-array-copy-out-result
+array-copy-out-result : tie.Need-bounds-rank-rank
 array-copy-out-result c = search rules
 
 returns : tie.Need-returns
@@ -20,9 +20,9 @@ unfolding small_tables partition_counts
 returns c =
     let size = count_kept 4 (omega arith) in
     record {
-      long = table-long 4 c.before.args.rank (omega arith) (rw size c.before.requires) ∙ size;
+      long = table-long 4 c.args.rank (omega arith) (rw size c.requires) ∙ size;
       holds = λ i h. refl;
     }
 
-pub row-of-four-spec : {M : Type 1} → statement M
-row-of-four-spec = tie.close (tie.spec mul-result array-copy-out-result returns)
+pub row_of_four_spec : {M : Type 1} → statement M
+row_of_four_spec = tie.close (tie.spec mul-result array-copy-out-result returns)

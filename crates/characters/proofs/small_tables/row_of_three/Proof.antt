@@ -10,31 +10,31 @@ use Rattle.characters.proofs.SmallTables.{row_copied}
 use Rattle.characters.proofs.small_tables.row_of_three.Statement.{statement}
 use Rattle.characters.proofs.small_tables.row_of_three.Tie as tie
 
-three-at-requires : tie.Need-three-at-requires
+three-at-requires : tie.Need-three_at-requires
 three-at-requires c κs = search rules
 
-three-at-requires-2 : tie.Need-three-at-requires-2
+three-at-requires-2 : tie.Need-three_at-requires-2
 three-at-requires-2 c κs = search rules
 
-three-at-requires-3 : tie.Need-three-at-requires-3
+three-at-requires-3 : tie.Need-three_at-requires-3
 three-at-requires-3 c κs = search rules
 
 returns : tie.Need-returns
 unfolding partition_counts
 returns c =
-    let one = c.before.before.three-at in
-    let two = c.before.three-at2 in
-    let three = c.three-at3 in
+    let one = c.three_at in
+    let two = c.three_at-2 in
+    let three = c.three_at-3 in
     rw (
-      to_z-of_z (sfits_of {z = one.result} one.type-inv),
+      to_z-of_z (sfits_of {z = one.result} one.type_inv),
       one.ensures,
-      to_z-of_z (sfits_of {z = two.result} two.type-inv),
+      to_z-of_z (sfits_of {z = two.result} two.type_inv),
       two.ensures,
-      to_z-of_z (sfits_of {z = three.result} three.type-inv),
+      to_z-of_z (sfits_of {z = three.result} three.type_inv),
       three.ensures,
     )
-    (row_copied 3 c.before.before.before.args.rank 3 (pos 0 ∷ pos 0 ∷ []) (count_kept 3 (omega arith)) refl)
+    (row_copied 3 c.args.rank 3 (pos 0 ∷ pos 0 ∷ []) (count_kept 3 (omega arith)) refl)
 
-pub row-of-three-spec : {M : Type 1} → statement M
-row-of-three-spec =
+pub row_of_three_spec : {M : Type 1} → statement M
+row_of_three_spec =
     tie.close (tie.spec three-at-requires three-at-requires-2 three-at-requires-3 returns)

@@ -10,24 +10,24 @@ use Rattle.characters.proofs.SmallTables.{row_copied}
 use Rattle.characters.proofs.small_tables.row_of_two.Statement.{statement}
 use Rattle.characters.proofs.small_tables.row_of_two.Tie as tie
 
-two-at-requires : tie.Need-two-at-requires
+two-at-requires : tie.Need-two_at-requires
 two-at-requires c κs = search rules
 
-two-at-requires-2 : tie.Need-two-at-requires-2
+two-at-requires-2 : tie.Need-two_at-requires-2
 two-at-requires-2 c κs = search rules
 
 returns : tie.Need-returns
 unfolding partition_counts
 returns c =
-    let one = c.before.two_at in
-    let two = c.two-at2 in
+    let one = c.two_at in
+    let two = c.two_at-2 in
     rw (
-      to_z-of_z (sfits_of {z = one.result} one.type-inv),
+      to_z-of_z (sfits_of {z = one.result} one.type_inv),
       one.ensures,
-      to_z-of_z (sfits_of {z = two.result} two.type-inv),
+      to_z-of_z (sfits_of {z = two.result} two.type_inv),
       two.ensures,
     )
-    (row_copied 2 c.before.before.args.rank 2 (pos 0 ∷ pos 0 ∷ pos 0 ∷ []) (count_kept 2 (omega arith)) refl)
+    (row_copied 2 c.args.rank 2 (pos 0 ∷ pos 0 ∷ pos 0 ∷ []) (count_kept 2 (omega arith)) refl)
 
-pub row-of-two-spec : {M : Type 1} → statement M
-row-of-two-spec = tie.close (tie.spec two-at-requires two-at-requires-2 returns)
+pub row_of_two_spec : {M : Type 1} → statement M
+row_of_two_spec = tie.close (tie.spec two-at-requires two-at-requires-2 returns)

@@ -5,17 +5,17 @@ use Rattle.characters.specs.Watch.Ratios.{in-float}
 use Rattle.characters.proofs.watches.divided.Statement.{statement}
 use Rattle.characters.proofs.watches.divided.Tie as tie
 
-int-to-float-result : tie.Need-int-to-float-result
+int-to-float-result : tie.Need-int_to_float-result
 int-to-float-result c =
-    rw (to_z-of_z c.before.ranges.number) (in-float c.before.args.number c.before.requires.0)
+    rw (to_z-of_z c.ranges.number) (in-float c.args.number c.requires.0)
 
-int-to-float-result-2 : tie.Need-int-to-float-result-2
+int-to-float-result-2 : tie.Need-int_to_float-result-2
 int-to-float-result-2 c =
-    let start = c.before.before in
+    let start = c in
     rw (to_z-of_z start.ranges.by) (in-float start.args.by start.requires.1)
 
 returns : tie.Need-returns
 returns c = search rules
 
-pub divided-spec : {M : Type 1} → statement M
-divided-spec = tie.close (tie.spec int-to-float-result int-to-float-result-2 returns)
+pub divided_spec : {M : Type 1} → statement M
+divided_spec = tie.close (tie.spec int-to-float-result int-to-float-result-2 returns)

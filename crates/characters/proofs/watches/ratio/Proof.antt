@@ -13,31 +13,31 @@ use Rattle.characters.proofs.watches.ratio.Tie as tie
 shape-requires : tie.Need-shape-requires
 shape-requires c κs = search rules
 
-character-degree-requires : tie.Need-character-degree-requires
+character-degree-requires : tie.Need-character_degree-degree-requires
 character-degree-requires c κs = search rules
 
-degree-is : (c : tie.After-character-degree)
-    → c.character-degree.result ≡ shape_character_degree degree_limit (line_of c.before.before.args.line).shape
-degree-is c = c.character-degree.ensures ∙ ap (shape_character_degree degree_limit) c.before.shape.ensures
+degree-is : (c : tie.After-character_degree-degree)
+    → c.character_degree-degree.result ≡ shape_character_degree degree_limit (line_of c.args.line).shape
+degree-is c = c.character_degree-degree.ensures ∙ ap (shape_character_degree degree_limit) c.shape.ensures
 
-add-line-requires : tie.Need-add-line-requires
+add-line-requires : tie.Need-add_line-requires
 add-line-requires c κs =
-    let s = c.before.before.requires in
+    let s = c.requires in
     (line-wider (omega arith) s, alone-fits degree_limit (omega arith) _ s)
 
 divided-requires : tie.Need-divided-requires
 divided-requires c κs =
-    let d = c.before.before in
-    rw c.before.add-line.ensures
-    (ratio-fits degree_limit (omega arith) _ d.before.before.requires (omega arith) _ (degree-is d))
+    let d = c in
+    rw c.add_line.ensures
+    (ratio-fits degree_limit (omega arith) _ d.requires (omega arith) _ (degree-is d.before.before))
 
 returns : tie.Need-returns
 returns c =
-    let d = c.before.before.before in
-    rw (c.divided.ensures, c.before.before.add-line.ensures)
-    (ratio-is degree_limit (omega arith) _ d.before.before.requires (omega arith) _ (degree-is d))
+    let d = c in
+    rw (c.divided.ensures, c.add_line.ensures)
+    (ratio-is degree_limit (omega arith) _ d.requires (omega arith) _ (degree-is d.before.before.before))
 
-pub ratio-spec : {M : Type 1} → statement M
-ratio-spec =
+pub ratio_spec : {M : Type 1} → statement M
+ratio_spec =
     tie.close
     (tie.spec shape-requires character-degree-requires add-line-requires divided-requires returns)

@@ -7,24 +7,24 @@ use Rattle.characters.proofs.WatchLaws.{page-first, kind-first}
 use Rattle.characters.proofs.watches.watch_refusal.Statement.{statement}
 use Rattle.characters.proofs.watches.watch_refusal.Tie as tie
 
-refusal-requires : tie.Need-refusal-requires
+refusal-requires : tie.Need-refusal-refused-requires
 refusal-requires c κs = search rules
 
-returns : tie.Need-returns
+returns : tie.Need-returns-then-refused-ne0
 returns c =
-    let a = c.before.before.before.args in
+    let a = c.args in
     page-first plain-lawful degree_limit a.slip a.page.now a.kind a.line _
-    c.before.refusal.ensures c.if1.true
+    c.refusal-refused.ensures c.if-refused-ne0.true
 
-kind-refusal-requires : tie.Need-kind-refusal-requires
+kind-refusal-requires : tie.Need-kind_refusal-requires
 kind-refusal-requires c κs = search rules
 
-returns-2 : tie.Need-returns-2
+returns-2 : tie.Need-returns
 returns-2 c =
-    let else1 = c.before in
-    let a = else1.before.before.before.args in
+    let else1 = c in
+    let a = else1.args in
     kind-first plain-lawful degree_limit a.slip a.page.now a.kind a.line _
-    c.kind-refusal.ensures (sym else1.before.refusal.ensures ∙ else1.if1.false)
+    c.kind_refusal.ensures (sym else1.refusal-refused.ensures ∙ else1.if-refused-ne0.false)
 
-pub watch-refusal-spec : {M : Type 1} → statement M
-watch-refusal-spec = tie.close (tie.spec refusal-requires returns kind-refusal-requires returns-2)
+pub watch_refusal_spec : {M : Type 1} → statement M
+watch_refusal_spec = tie.close (tie.spec refusal-requires returns kind-refusal-requires returns-2)

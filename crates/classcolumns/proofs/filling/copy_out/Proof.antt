@@ -19,98 +19,98 @@ use Rattle.classcolumns.proofs.Entries.{entries-length, NextEntry, next-entry}
 use Rattle.classcolumns.proofs.filling.copy_out.Statement.{statement}
 use Rattle.classcolumns.proofs.filling.copy_out.Tie as tie
 
-abbrev invariant-loop : tie.invariant-loop
-invariant-loop table words displacements degree values₀ start count i₀ values i =
+abbrev invariant-loop-i : tie.invariant-loop-i
+invariant-loop-i table words displacements degree values₀ start count i₀ values i =
     Putting (entries shape_places table degree) values₀ values i (drop i (entries shape_places table degree))
 
-abbrev decreases-loop : tie.decreases-loop
-decreases-loop table words displacements degree values₀ start count i₀ values i = count - i
+abbrev decreases-loop-i : tie.decreases-loop-i
+decreases-loop-i table words displacements degree values₀ start count i₀ values i = count - i
 
-abbrev begin : tie.After-section invariant-loop decreases-loop → tie.Start invariant-loop decreases-loop
+abbrev begin : tie.After-section-section invariant-loop-i decreases-loop-i → tie.Start invariant-loop-i decreases-loop-i
 begin c = c.before.before.before
 
-abbrev section : tie.In-loop invariant-loop decreases-loop → tie.After-section invariant-loop decreases-loop
+abbrev section : tie.In-loop-i invariant-loop-i decreases-loop-i → tie.After-section-section invariant-loop-i decreases-loop-i
 section c = c.before.before
 
-given : (c : tie.After-section invariant-loop decreases-loop) → let n = (begin c).args.degree in
-    c.section.result ≡ section_answer 0 (start n) (length (listing n))
-given c = section-given _ _ c.section.result c.section.ensures (begin c).requires.1.0.1
+given : (c : tie.After-section-section invariant-loop-i decreases-loop-i) → let n = (begin c).args.degree in
+    c.section-section.result ≡ section_answer 0 (start n) (length (listing n))
+given c = section-given _ _ c.section-section.result c.section-section.ensures (begin c).requires.1.0.1
 
-counted : (c : tie.After-section invariant-loop decreases-loop)
-    → c.section.result.count ≡ length (listing (begin c).args.degree)
+counted : (c : tie.After-section-section invariant-loop-i decreases-loop-i)
+    → c.section-section.result.count ≡ length (listing (begin c).args.degree)
 counted c = ap (λ (x : SectionAnswer). x.count) (given c)
 
-long : (c : tie.Start invariant-loop decreases-loop)
+long : (c : tie.Start invariant-loop-i decreases-loop-i)
     → length (entries shape_places c.args.table.now c.args.degree) ≡ length (listing c.args.degree)
 long c = entries-length shape_places c.args.table.now c.args.degree
 
-read : (c : tie.In-loop invariant-loop decreases-loop)
+read : (c : tie.In-loop-i invariant-loop-i decreases-loop-i)
     → let a = (begin (section c)).args in
-    NextEntry shape_places a.table.now a.words.now a.degree (section c).section.result.start
-    c.before.loop.i
+    NextEntry shape_places a.table.now a.words.now a.degree (section c).section-section.result.start
+    c.loop-i.i
 read c =
-    let pre = (begin (section c)).pre in
+    let pre = (begin (section c)).requires in
     next-entry _ _ _ _ (omega (arith, counted (section c))) (omega arith) pre.1.0.1 _ _ pre.0.0
     (ap (λ (x : SectionAnswer). x.start) (given (section c)))
 
-section-requires : tie.Need-section-requires invariant-loop decreases-loop
+section-requires : tie.Need-section-section-requires invariant-loop-i decreases-loop-i
 section-requires c κs = search rules
 
-loop-holds : tie.Need-loop-init invariant-loop decreases-loop
+loop-holds : tie.Need-loop-i-init invariant-loop-i decreases-loop-i
 loop-holds c = put-start _ _ (omega (arith, long (begin c), (begin c).requires.1.1))
 
-add-look : tie.Need-overflow-add-look invariant-loop decreases-loop
+add-look : tie.Need-overflow_add-start invariant-loop-i decreases-loop-i
 add-look c = omega (arith, (read c).inside)
 
-mul-look : tie.Need-overflow-mul-look invariant-loop decreases-loop
+mul-look : tie.Need-offset_bounds-words-start invariant-loop-i decreases-loop-i
 mul-look c = omega (arith, (read c).inside)
 
-shared-slice-read-look : tie.Need-shared-slice-read-look invariant-loop decreases-loop
+shared-slice-read-look : tie.Need-bounds-words-start invariant-loop-i decreases-loop-i
 shared-slice-read-look c = (read c.before).inside
 
-look-requires : tie.Need-look-requires invariant-loop decreases-loop
+look-requires : tie.Need-look-number-requires invariant-loop-i decreases-loop-i
 look-requires c κs =
-    let pre = (begin (section c.before)).pre in
+    let pre = (begin (section c.before)).requires in
     ((pre.1.0.0, pre.0.1), (read c.before).good)
 
-mul-number : tie.Need-overflow-mul-number invariant-loop decreases-loop
+mul-number : tie.Need-offset_bounds-values-i invariant-loop-i decreases-loop-i
 mul-number c = search rules
 
-slice-set-from-number : tie.Need-slice-set-from-number invariant-loop decreases-loop
+slice-set-from-number : tie.Need-bounds-values-i invariant-loop-i decreases-loop-i
 slice-set-from-number c =
     let in-loop = c.before.before in
     let s = section in-loop in
-    omega (arith, counted s, (begin s).pre.1.1, in-loop.before.loop.invariant.same)
+    omega (arith, counted s, (begin s).requires.1.1, in-loop.before.loop-i.invariant.same)
 
-add-i : tie.Need-overflow-add-i invariant-loop decreases-loop
+add-i : tie.Need-overflow_add-i invariant-loop-i decreases-loop-i
 add-i c = search rules
 
-loop-less : tie.Need-loop-smaller invariant-loop decreases-loop
+loop-less : tie.Need-loop-i-smaller invariant-loop-i decreases-loop-i
 loop-less c = search rules
 
-loop-again : tie.Need-loop-preserved invariant-loop decreases-loop
+loop-again : tie.Need-loop-i-preserved invariant-loop-i decreases-loop-i
 loop-again c =
     let in-loop = c.before.before in
-    let number = to_z-of_z {w = w64} (sfits_of c.look.type-inv) ∙ c.look.ensures in
-    put_next _ _ in-loop.before.loop.invariant (rw number (read in-loop).reads)
+    let number = to_z-of_z {w = w64} (sfits_of c.look-number.type_inv) ∙ c.look-number.ensures in
+    put_next _ _ in-loop.before.loop-i.invariant (rw number (read in-loop).reads)
 
-same_length : tie.Need-same-length invariant-loop decreases-loop
+same_length : tie.Need-shape_of-values invariant-loop-i decreases-loop-i
 same_length c = search rules
 
-returns : tie.Need-returns invariant-loop decreases-loop
+returns : tie.Need-returns invariant-loop-i decreases-loop-i
 returns c =
-    let s = c.before.before in
-    let whole = long (begin s) in
-    let past = counted s in
-    put_all _ _ (omega (arith, (begin s).requires.1.1)) c.before.loop.invariant
-    (drop_of_length-le _ {i = c.before.loop.i} (omega arith))
+    let s = c in
+    let whole = long (begin s.before.before) in
+    let past = counted s.before.before in
+    put_all _ _ (omega (arith, (begin s.before.before).requires.1.1)) c.loop-i.invariant
+    (drop_of_length-le _ {i = c.loop-i.i} (omega arith))
 
-pub copy-out-spec : {M : Type 1} → statement M
-copy-out-spec =
+pub copy_out_spec : {M : Type 1} → statement M
+copy_out_spec =
     tie.close
     (tie.spec
-    invariant-loop
-    decreases-loop
+    invariant-loop-i
+    decreases-loop-i
     section-requires
     loop-holds
     add-look

@@ -7,17 +7,17 @@ use Rattle.classcolumns.proofs.KeptTables.{kept-empty}
 use Rattle.classcolumns.proofs.filling.empty.Statement.{statement}
 use Rattle.classcolumns.proofs.filling.empty.Tie as tie
 
-place-requires : tie.Need-place-requires
+place-requires : tie.Need-place-at-requires
 place-requires c κs = search rules
 
-mul-table : tie.Need-overflow-mul-table
+mul-table : tie.Need-offset_bounds-table-at
 mul-table c = search rules
 
-array-set-of-table : tie.Need-array-set-of-table
+array-set-of-table : tie.Need-array_set_of-table
 array-set-of-table c = search rules
 
 returns : tie.Need-returns
-returns c = kept-empty shapes-placed place_count c.place.result refl c.place.ensures.0
+returns c = kept-empty shapes-placed place_count c.place-at.result refl c.place-at.ensures.0
 
-pub empty-spec : {M : Type 1} → statement M
-empty-spec = tie.close (tie.spec place-requires mul-table array-set-of-table returns)
+pub empty_spec : {M : Type 1} → statement M
+empty_spec = tie.close (tie.spec place-requires mul-table array-set-of-table returns)

@@ -8,5 +8,5 @@ returns : tie.Need-returns
 unfolding displacement_table
 returns c = refl
 
-pub displacements-spec : {M : Type 1} → statement M
-displacements-spec = tie.close (tie.spec returns)
+pub displacements_spec : {M : Type 1} → statement M
+displacements_spec = tie.close (tie.spec returns)

@@ -11,28 +11,28 @@ use Rattle.gathered.proofs.columns.begin.Tie as tie
 coefficients-requires : tie.Need-coefficients-requires
 coefficients-requires c κs = search rules
 
-slice-set-of-column : tie.Need-slice-set-of-column
+slice-set-of-column : tie.Need-slice_set_of-column
 slice-set-of-column c = search rules
 
-same_length : tie.Need-same-length
+same_length : tie.Need-shape_of-column-then-lines-eq1
 same_length c = search rules
 
-returns : tie.Need-returns
+returns : tie.Need-returns-then-lines-eq1
 returns c =
-    let start = c.before.before.before.before in
-    rw (c.before.before.coefficients.ensures, cleared-whole (pos 0) _, c.if1.true)
-    (one_line (length start.args.column.now) (omega (arith, start.requires.1, c.if1.true)))
+    let start = c in
+    rw (c.coefficients.ensures, cleared-whole (pos 0) _, c.if-lines-eq1.true)
+    (one_line (length start.args.column.now) (omega (arith, start.requires.1, c.if-lines-eq1.true)))
 
-same-length-2 : tie.Need-same-length-2
+same-length-2 : tie.Need-shape_of-column-else-lines-eq1
 same-length-2 c = search rules
 
-returns-2 : tie.Need-returns-2
+returns-2 : tie.Need-returns-else-lines-eq1
 returns-2 c =
-    let start = c.before.before.before.before in
-    let none : start.args.lines ≡ 0 = omega (arith, start.requires.0, c.if1.false) in
-    rw (c.before.before.coefficients.ensures, none) refl
+    let start = c in
+    let none : start.args.lines ≡ 0 = omega (arith, start.requires.0, c.if-lines-eq1.false) in
+    rw (c.coefficients.ensures, none) refl
 
-pub begin-spec : {M : Type 1} → statement M
-begin-spec =
+pub begin_spec : {M : Type 1} → statement M
+begin_spec =
     tie.close
     (tie.spec coefficients-requires slice-set-of-column same_length returns same-length-2 returns-2)

@@ -13,10 +13,10 @@ add-requires-2 c κs = search rules
 
 returns : tie.Need-returns
 returns c =
-    let start = c.before.before.before.before in
+    let start = c in
     let settled = sum_is start.args.slip.settled start.args.settled start.requires.0 in
     let steps = sum_is start.args.slip.steps (pos 1) start.requires.1 in
-    rw (c.before.before.add.ensures, settled, c.add2.ensures, steps)
+    rw (c.add.ensures, settled, c.add-2.ensures, steps)
 
-pub next-slip-spec : {M : Type 1} → statement M
-next-slip-spec = tie.close (tie.spec add-requires add-requires-2 returns)
+pub next_slip_spec : {M : Type 1} → statement M
+next_slip_spec = tie.close (tie.spec add-requires add-requires-2 returns)

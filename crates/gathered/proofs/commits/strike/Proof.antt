@@ -12,96 +12,96 @@ use Rattle.gathered.proofs.Strikes.{strike-refused, fewer, left-long, size-carri
 use Rattle.gathered.proofs.commits.strike.Statement.{statement}
 use Rattle.gathered.proofs.commits.strike.Tie as tie
 
-array-write-own : tie.Need-array-write-own
+array-write-own : tie.Need-bounds-own-0
 array-write-own c = search rules
 
 -- ---- what the plain commit answers
-abbrev begin : tie.After-commit → tie.Start
+abbrev begin : tie.After-commit-done → tie.Start
 begin c = c.before.before.before.before.before
 
-outcome : (c : tie.After-commit) → let a = (begin c).args in
-    Outcome (commit degree_limit (alone a.word) (paged 15 a.word) 0 a.cycle a.strip.now) c.commit.result
-    c.commit.new.1.0
-outcome c = rw c.before.before.alone.ensures at c.commit.ensures
+outcome : (c : tie.After-commit-done) → let a = (begin c).args in
+    Outcome (commit degree_limit (alone a.word) (paged 15 a.word) 0 a.cycle a.strip.now) c.commit-done.result
+    c.commit-done.new.page
+outcome c = rw c.alone.ensures at c.commit-done.ensures
 
 alone-requires : tie.Need-alone-requires
 alone-requires c κs = search rules
 
-slice-aggregate-commit : tie.Need-slice-aggregate-commit
+slice-aggregate-commit : tie.Need-slice_bounds-commit-end
 slice-aggregate-commit c = search rules
 
-commit-requires : tie.Need-commit-requires
+commit-requires : tie.Need-commit-done-requires
 commit-requires c κs = search rules
 
-returns : tie.Need-returns
+returns : tie.Need-returns-then-done-ne0
 returns c =
-    let k = c.before.before.before in
-    let s = begin k in
-    strike-refused _ _ s.pre.0 _ _ (outcome k) c.if1.true _ _
+    let k = c in
+    let s = begin k.before.before.before in
+    strike-refused _ _ s.requires.0 _ _ (outcome k.before.before.before) c.if-done-ne0.true _ _
 
-array-share-prefix-own : tie.Need-array-share-prefix-own
+array-share-prefix-own : tie.Need-slice_bounds-own-end
 array-share-prefix-own c =
-    let e = c.before in
-    let k = e.before.before.before in
-    let s = begin k in
+    let e = c in
+    let k = e in
+    let s = begin k.before.before.before.before in
     omega (
       arith,
-      fewer _ _ s.pre.0 _ _ (outcome k) e.if1.false,
-      left-long _ _ s.pre.0 _ _ (outcome k)
-          e.if1.false,
+      fewer _ _ s.requires.0 _ _ (outcome k.before.before.before.before) e.if-done-ne0.false,
+      left-long _ _ s.requires.0 _ _ (outcome k.before.before.before.before)
+          e.if-done-ne0.false,
     )
 
-slice-aggregate-weigh : tie.Need-slice-aggregate-weigh
+slice-aggregate-weigh : tie.Need-slice_bounds-weigh-end
 slice-aggregate-weigh c =
-    let e = c.before.before in
-    let k = e.before.before.before in
-    let s = begin k in
+    let e = c in
+    let k = e in
+    let s = begin k.before.before.before.before.before in
     sym (length-take-le _ _
     (omega (
       arith,
-      fewer _ _ s.pre.0 _ _ (outcome k) e.if1.false,
-      left-long _ _ s.pre.0 _ _ (outcome k)
-          e.if1.false,
+      fewer _ _ s.requires.0 _ _ (outcome k.before.before.before.before.before) e.if-done-ne0.false,
+      left-long _ _ s.requires.0 _ _ (outcome k.before.before.before.before.before)
+          e.if-done-ne0.false,
     )))
 
 weigh-requires : tie.Need-weigh-requires
 weigh-requires c κs =
-    let e = c.before.before.before.before in
-    let k = e.before.before.before in
-    let s = begin k in
-    let few = fewer _ _ s.pre.0 _ _ (outcome k) e.if1.false in
-    let long = length-take-le k.commit.result.slip.lines k.commit.new.1.0
-    (omega (arith, few, left-long _ _ s.pre.0 _ _ (outcome k) e.if1.false)) in (
-      omega (arith, long, few, s.pre.2),
-      omega (arith, long, few, s.pre.3),
-      size-carried _ _ s.pre.0 _ _ (outcome k) e.if1.false s.pre.1,
+    let e = c in
+    let k = e in
+    let s = begin k.before.before.before.before.before.before.before in
+    let few = fewer _ _ s.requires.0 _ _ (outcome k.before.before.before.before.before.before.before) e.if-done-ne0.false in
+    let long = length-take-le k.commit-done.result.slip.lines k.commit-done.new.page
+    (omega (arith, few, left-long _ _ s.requires.0 _ _ (outcome k.before.before.before.before.before.before.before) e.if-done-ne0.false)) in (
+      omega (arith, long, few, s.requires.2),
+      omega (arith, long, few, s.requires.3),
+      size-carried _ _ s.requires.0 _ _ (outcome k.before.before.before.before.before.before.before) e.if-done-ne0.false s.requires.1,
     )
 
 times-requires : tie.Need-times-requires
 times-requires c κs =
-    let e = c.before.before.before.before.before.before.before.before.before in
-    let k = e.before.before.before in
-    let s = begin k in
-    times-fits _ _ s.pre.0 _ _ (outcome k) e.if1.false s.pre.1
+    let e = c in
+    let k = e in
+    let s = begin k.before.before.before.before.before.before.before.before.before.before.before.before in
+    times-fits _ _ s.requires.0 _ _ (outcome k.before.before.before.before.before.before.before.before.before.before.before.before) e.if-done-ne0.false s.requires.1
 
-same_length : tie.Need-same-length
+same_length : tie.Need-shape_of-words
 same_length c = search rules
 
-same-length-2 : tie.Need-same-length-2
+same-length-2 : tie.Need-shape_of-weights
 same-length-2 c = search rules
 
-returns-2 : tie.Need-returns-2
+returns-2 : tie.Need-returns
 returns-2 c =
-    let w = c.before.before.before.before.before in
-    let e = w.before.before.before.before.before in
-    let k = e.before.before.before in
-    let s = begin k in
-    strike-done _ _ s.pre.0 _ _ (outcome k) e.if1.false s.pre.1 _ _ _ _ _ s.pre.2 s.pre.3
+    let w = c in
+    let e = w in
+    let k = e in
+    let s = begin k.before.before.before.before.before.before.before.before.before.before.before.before.before in
+    strike-done _ _ s.requires.0 _ _ (outcome k.before.before.before.before.before.before.before.before.before.before.before.before.before) e.if-done-ne0.false s.requires.1 _ _ _ _ _ s.requires.2 s.requires.3
     w.weigh.ensures
     c.times.ensures
 
-pub strike-spec : {M : Type 1} → statement M
-strike-spec =
+pub strike_spec : {M : Type 1} → statement M
+strike_spec =
     tie.close
     (tie.spec
     array-write-own

@@ -16,63 +16,63 @@ use Rattle.gathered.proofs.Loops.{put_next, put-none}
 use Rattle.gathered.proofs.commits.weigh.Statement.{statement}
 use Rattle.gathered.proofs.commits.weigh.Tie as tie
 
-abbrev invariant-loop : tie.invariant-loop
-invariant-loop hooks coefficient words₀ weights₀ j₀ words weights j =
+abbrev invariant-loop-j : tie.invariant-loop-j
+invariant-loop-j hooks coefficient words₀ weights₀ j₀ words weights j =
     (sets words j (map cleared (drop j hooks)) ≡ sets words₀ 0 (map cleared hooks))
     × (sets weights j (map (turned (to_z w64 coefficient)) (drop j hooks))
     ≡ sets weights₀ 0 (map (turned (to_z w64 coefficient)) hooks))
     × (length words ≡ length words₀) × (length weights ≡ length weights₀)
 
-abbrev decreases-loop : tie.decreases-loop
-decreases-loop hooks coefficient words₀ weights₀ j₀ words weights j = length hooks - j
+abbrev decreases-loop-j : tie.decreases-loop-j
+decreases-loop-j hooks coefficient words₀ weights₀ j₀ words weights j = length hooks - j
 
-loop-holds : tie.Need-loop-init invariant-loop decreases-loop
+loop-holds : tie.Need-loop-j-init invariant-loop-j decreases-loop-j
 loop-holds c = (refl, refl, refl, refl)
 
-mul_words : tie.Need-overflow-mul-words invariant-loop decreases-loop
+mul_words : tie.Need-offset_bounds-hooks-j invariant-loop-j decreases-loop-j
 mul_words c = search rules
 
-shared-slice-read-words : tie.Need-shared-slice-read-words invariant-loop decreases-loop
+shared-slice-read-words : tie.Need-bounds-hooks-j invariant-loop-j decreases-loop-j
 shared-slice-read-words c = search rules
 
-mul-words-2 : tie.Need-overflow-mul-words-2 invariant-loop decreases-loop
+mul-words-2 : tie.Need-offset_bounds-words-j invariant-loop-j decreases-loop-j
 mul-words-2 c = search rules
 
-slice-write-words : tie.Need-slice-write-words invariant-loop decreases-loop
+slice-write-words : tie.Need-bounds-words-j invariant-loop-j decreases-loop-j
 slice-write-words c = search rules
 
-mul-minus : tie.Need-overflow-mul-minus invariant-loop decreases-loop
+mul-minus : tie.Need-offset_bounds-hooks-j-in-loop-j invariant-loop-j decreases-loop-j
 mul-minus c = search rules
 
-shared-slice-read-minus : tie.Need-shared-slice-read-minus invariant-loop decreases-loop
+shared-slice-read-minus : tie.Need-bounds-hooks-j-in-loop-j invariant-loop-j decreases-loop-j
 shared-slice-read-minus c = search rules
 
-minus-requires : tie.Need-minus-requires invariant-loop decreases-loop
+minus-requires : tie.Need-minus-requires invariant-loop-j decreases-loop-j
 minus-requires c κs = search rules
 
-turn-requires : tie.Need-turn-requires invariant-loop decreases-loop
+turn-requires : tie.Need-turn-requires invariant-loop-j decreases-loop-j
 turn-requires c κs = search rules
 
-mul-t6 : tie.Need-overflow-mul-t6 invariant-loop decreases-loop
+mul-t6 : tie.Need-offset_bounds-weights-j invariant-loop-j decreases-loop-j
 mul-t6 c = search rules
 
-slice-set-from-weights : tie.Need-slice-set-from-weights invariant-loop decreases-loop
+slice-set-from-weights : tie.Need-bounds-weights-j invariant-loop-j decreases-loop-j
 slice-set-from-weights c = search rules
 
-add-j : tie.Need-overflow-add-j invariant-loop decreases-loop
+add-j : tie.Need-overflow_add-j invariant-loop-j decreases-loop-j
 add-j c = search rules
 
-loop-less : tie.Need-loop-smaller invariant-loop decreases-loop
+loop-less : tie.Need-loop-j-smaller invariant-loop-j decreases-loop-j
 loop-less c = omega arith
 
-loop-again : tie.Need-loop-preserved invariant-loop decreases-loop
+loop-again : tie.Need-loop-j-preserved invariant-loop-j decreases-loop-j
 loop-again c =
-    let l = c.before.before.before.before.before.loop in
-    let s = c.before.before.before.before.before.before.before.before in
-    let more = c.before.before.before.before.loop-test.true in
+    let l = c.loop-j in
+    let s = c in
+    let more = c.loop-j-test.true in
     let weight : carried c.turn.result ≡ turned (carried s.args.coefficient)
     (get_or s.args.hooks.now l.j 0) =
-    to_z-of_z (sfits_of {z = c.turn.result} c.turn.type-inv) ∙ c.turn.ensures ∙ rw c.before.minus.ensures in (
+    to_z-of_z {w = w64} (sfits_of {z = c.turn.result} c.turn.type_inv) ∙ c.turn.ensures ∙ rw c.minus.ensures in (
       put_next cleared 0 l.words s.args.hooks.now l.j more ∙ l.invariant.0,
       rw weight (put_next (turned (carried s.args.coefficient)) 0 l.weights s.args.hooks.now l.j more)
           ∙ l.invariant.1,
@@ -80,27 +80,27 @@ loop-again c =
       length-set l.weights l.j _ ∙ l.invariant.3,
     )
 
-same_length : tie.Need-same-length invariant-loop decreases-loop
+same_length : tie.Need-shape_of-words invariant-loop-j decreases-loop-j
 same_length c = search rules
 
-same-length-2 : tie.Need-same-length-2 invariant-loop decreases-loop
+same-length-2 : tie.Need-shape_of-weights invariant-loop-j decreases-loop-j
 same-length-2 c = search rules
 
-returns : tie.Need-returns invariant-loop decreases-loop
+returns : tie.Need-returns invariant-loop-j decreases-loop-j
 returns c =
-    let s = c.before.before.before.before in
+    let s = c in
     let same = carried-is s.args.coefficient s.requires.2 in (
-      put-none cleared 0 _ _ _ c.loop-test.false ∙ c.before.loop.invariant.0,
-      put-none (turned (carried s.args.coefficient)) 0 _ _ _ c.loop-test.false ∙ c.before.loop.invariant.1
+      put-none cleared 0 _ _ _ c.loop-j-test.false ∙ c.loop-j.invariant.0,
+      put-none (turned (carried s.args.coefficient)) 0 _ _ _ c.loop-j-test.false ∙ c.loop-j.invariant.1
           ∙ ap (λ (z : ℤ). sets s.args.weights.now 0 (map (turned z) s.args.hooks.now)) same,
     )
 
-pub weigh-spec : {M : Type 1} → statement M
-weigh-spec =
+pub weigh_spec : {M : Type 1} → statement M
+weigh_spec =
     tie.close
     (tie.spec
-    invariant-loop
-    decreases-loop
+    invariant-loop-j
+    decreases-loop-j
     loop-holds
     mul_words
     shared-slice-read-words

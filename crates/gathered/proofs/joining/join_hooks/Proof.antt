@@ -9,98 +9,98 @@ use Rattle.gathered.proofs.Rooms.{joined-all}
 use Rattle.gathered.proofs.joining.join_hooks.Statement.{statement}
 use Rattle.gathered.proofs.joining.join_hooks.Tie as tie
 
-slice-reshare-prefix-find-all : tie.Need-slice-reshare-prefix-find-all
+slice-reshare-prefix-find-all : tie.Need-slice_bounds-find_all-end
 slice-reshare-prefix-find-all c = search rules
 
-slice-aggregate-find-all : tie.Need-slice-aggregate-find-all
-slice-aggregate-find-all c = sym (words_long _ _ _ _ _ _ c.before.before.before.requires)
+slice-aggregate-find-all : tie.Need-slice_bounds-find_all-end-2
+slice-aggregate-find-all c = sym (words_long _ _ _ _ _ _ c.requires)
 
-slice-aggregate-find-all-2 : tie.Need-slice-aggregate-find-all-2
+slice-aggregate-find-all-2 : tie.Need-slice_bounds-find_all-end-3
 slice-aggregate-find-all-2 c = search rules
 
-find-all-requires : tie.Need-find-all-requires
+find-all-requires : tie.Need-find_all-requires
 find-all-requires c κs = search rules
 
-slice-reshare-prefix-saved-by-all : tie.Need-slice-reshare-prefix-saved-by-all
+slice-reshare-prefix-saved-by-all : tie.Need-slice_bounds-saved_by_all-end
 slice-reshare-prefix-saved-by-all c = search rules
 
-slice-aggregate-saved-by-all : tie.Need-slice-aggregate-saved-by-all
+slice-aggregate-saved-by-all : tie.Need-slice_bounds-saved_by_all-end-2
 slice-aggregate-saved-by-all c =
-    sym (weights-long _ _ _ _ _ _ c.before.before.before.before.before.before.before.requires)
+    sym (weights-long _ _ _ _ _ _ c.requires)
 
-array-share-prefix-places : tie.Need-array-share-prefix-places
+array-share-prefix-places : tie.Need-slice_bounds-places-end
 array-share-prefix-places c = search rules
 
-slice-aggregate-saved-by-all-2 : tie.Need-slice-aggregate-saved-by-all-2
+slice-aggregate-saved-by-all-2 : tie.Need-slice_bounds-saved_by_all-end-3
 slice-aggregate-saved-by-all-2 c =
-    let s = c.before.before.before.before.before.before.before.before in
+    let s = c in
     sym (length-take-le _ _ (all-long _ _ _ _ _ _ s.requires (replicate 16 0) refl
-    c.before.before.before.find-all.ensures))
+    c.find_all.ensures))
 
-saved-by-all-requires : tie.Need-saved-by-all-requires
+saved-by-all-requires : tie.Need-saved_by_all-saved-requires
 saved-by-all-requires c κs =
-    let s = c.before.before.before.before.before.before.before.before in
-    saves _ _ _ _ _ _ s.requires (replicate 16 0) refl c.before.before.before.find-all.ensures
+    let s = c in
+    saves _ _ _ _ _ _ s.requires (replicate 16 0) refl c.find_all.ensures
 
-add-if1 : tie.Need-overflow-add-if1
+add-if1 : tie.Need-overflow_add-page
 add-if1 c =
-    let s = c.before.before.before.before.before.before.before.before.before in
+    let s = c in
     let few = few_saved _ _ _ _ _ _ s.requires (replicate 16 0) refl
-    c.before.before.before.before.find-all.ensures c.saved-by-all.ensures in
+    c.find_all.ensures c.saved_by_all-saved.ensures in
     record { fits = omega (arith, few, s.requires.short) }
 
-sub-if1 : tie.Need-overflow-sub-if1
+sub-if1 : tie.Need-overflow_sub-lines
 sub-if1 c = search rules
 
-add-if1-2 : tie.Need-overflow-add-if1-2
+add-if1-2 : tie.Need-overflow_add-lines
 add-if1-2 c = search rules
 
-same_length : tie.Need-same-length
+same_length : tie.Need-shape_of-page-then-page-saved
 same_length c = search rules
 
-same-length-2 : tie.Need-same-length-2
+same-length-2 : tie.Need-shape_of-column-then-page-saved
 same-length-2 c = search rules
 
-returns : tie.Need-returns
+returns : tie.Need-returns-then-page-saved
 returns c =
-    let k = c.before in
-    let s = k.before.before.before.before.before.before.before.before.before in
-    too-full _ _ _ _ _ _ s.requires (replicate 16 0) refl k.before.before.before.before.find-all.ensures
-    k.saved-by-all.ensures c.if1.true
+    let k = c in
+    let s = k in
+    too-full _ _ _ _ _ _ s.requires (replicate 16 0) refl k.find_all.ensures
+    k.saved_by_all-saved.ensures c.if-page-saved.true
 
-array-share-prefix-places-2 : tie.Need-array-share-prefix-places-2
+array-share-prefix-places-2 : tie.Need-slice_bounds-places-end-2
 array-share-prefix-places-2 c = search rules
 
-slice-aggregate-join : tie.Need-slice-aggregate-join
+slice-aggregate-join : tie.Need-slice_bounds-join-end
 slice-aggregate-join c =
-    let k = c.before.before.before.before in
-    let s = k.before.before.before.before.before.before.before.before.before in
+    let k = c in
+    let s = k in
     sym (length-take-le _ _ (all-long _ _ _ _ _ _ s.requires (replicate 16 0) refl
-    k.before.before.before.before.find-all.ensures))
+    k.find_all.ensures))
 
-join-requires : tie.Need-join-requires
+join-requires : tie.Need-join-left-requires
 join-requires c κs =
-    let k = c.before.before.before.before in
-    let s = k.before.before.before.before.before.before.before.before.before in
-    joins _ _ _ _ _ _ s.requires (replicate 16 0) refl k.before.before.before.before.find-all.ensures
-    k.saved-by-all.ensures c.before.before.before.if1.false
+    let k = c in
+    let s = k in
+    joins _ _ _ _ _ _ s.requires (replicate 16 0) refl k.find_all.ensures
+    k.saved_by_all-saved.ensures c.if-page-saved.false
 
-same-length-3 : tie.Need-same-length-3
+same-length-3 : tie.Need-shape_of-page
 same-length-3 c = search rules
 
-same-length-4 : tie.Need-same-length-4
+same-length-4 : tie.Need-shape_of-column
 same-length-4 c = search rules
 
-returns-2 : tie.Need-returns-2
+returns-2 : tie.Need-returns
 returns-2 c =
-    let e = c.before.before.before.before.before.before.before in
-    let k = e.before in
-    let s = k.before.before.before.before.before.before.before.before.before in
-    joined-all _ _ _ _ _ _ s.requires (replicate 16 0) refl k.before.before.before.before.find-all.ensures
-    k.saved-by-all.ensures e.if1.false c.before.before.before.join.ensures
+    let e = c in
+    let k = e in
+    let s = k in
+    joined-all _ _ _ _ _ _ s.requires (replicate 16 0) refl k.find_all.ensures
+    k.saved_by_all-saved.ensures e.if-page-saved.false c.join-left.ensures
 
-pub join-hooks-spec : {M : Type 1} → statement M
-join-hooks-spec =
+pub join_hooks_spec : {M : Type 1} → statement M
+join_hooks_spec =
     tie.close
     (tie.spec
     slice-reshare-prefix-find-all

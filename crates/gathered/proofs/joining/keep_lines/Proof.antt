@@ -16,48 +16,48 @@ abbrev begin : tie.After-raise → tie.Start
 begin c = c.before.before.before.before
 
 abbrev struck : tie.After-raise → List ℤ
-struck c = set c.raise.new.0 (begin c).args.line (pos 0)
+struck c = set c.raise.new.column (begin c).args.line (pos 0)
 
 struck-long : (c : tie.After-raise) → length (struck c) ≡ length (begin c).args.column.now
 struck-long c =
-    length-set c.raise.new.0 (begin c).args.line (pos 0) ∙ ap length c.raise.ensures
+    length-set c.raise.new.column (begin c).args.line (pos 0) ∙ ap length c.raise.ensures
     ∙ length-raised (begin c).args.column.now (begin c).args.places.now (begin c).args.weights.now
 
 -- ---- what the squeeze left
-put : (c : tie.After-column2) → let r = c.before.before.before.before.before.before.before in
-    let a = (begin r).args in
+put : (c : tie.After-column-2-1) → let r = c in
+    let a = (begin r.before.before.before.before.before.before.before).args in
     let ls = stayed a.page.now a.column.now a.line a.places.now a.weights.now in
-    let q = c.before.before.before.squeeze in
-    Outcome (putting ls a.page.now a.column.now) q.result (q.new.0, q.new.1.0)
+    let q = c.squeeze in
+    Outcome (putting ls a.page.now a.column.now) q.result (q.new.page, q.new.column)
 put c =
-    let r = c.before.before.before.before.before.before.before in
-    let a = (begin r).args in
-    put-again a.page.now a.column.now a.line a.places.now a.weights.now {up = r.raise.new.0}
-    c.before.before.before.squeeze.ensures r.raise.ensures
+    let r = c in
+    let a = (begin r.before.before.before.before.before.before.before).args in
+    put-again a.page.now a.column.now a.line a.places.now a.weights.now {up = r.raise.new.column}
+    c.squeeze.ensures r.raise.ensures
 
 raise-requires : tie.Need-raise-requires
 raise-requires c κs = search rules
 
-mul-column : tie.Need-overflow-mul-column
+mul-column : tie.Need-offset_bounds-column-line
 mul-column c = search rules
 
-slice-set-of-column : tie.Need-slice-set-of-column
+slice-set-of-column : tie.Need-slice_set_of-column
 slice-set-of-column c = search rules
 
 squeeze-requires : tie.Need-squeeze-requires
 squeeze-requires c κs =
-    let r = c.before.before.before in
-    (begin r).requires.0 ∙ sym (struck-long r)
+    let r = c in
+    (begin r.before.before.before).requires.0 ∙ sym (struck-long r.before.before.before)
 
-same_length : tie.Need-same-length
+same_length : tie.Need-shape_of-page
 same_length c = search rules
 
-same-length-2 : tie.Need-same-length-2
+same-length-2 : tie.Need-shape_of-column
 same-length-2 c =
-    let r = c.before.before.before.before.before.before.before in
-    let a = (begin r).args in
+    let r = c in
+    let a = (begin r.before.before.before.before.before.before.before).args in
     put-length a.page.now a.column.now
-    (set (raised a.column.now a.places.now a.weights.now) a.line (pos 0)) (begin r).requires.0
+    (set (raised a.column.now a.places.now a.weights.now) a.line (pos 0)) (begin r.before.before.before.before.before.before.before).requires.0
     (length-set (raised a.column.now a.places.now a.weights.now) a.line (pos 0)
     ∙ length-raised a.column.now a.places.now a.weights.now)
     (put c).leaves
@@ -65,8 +65,8 @@ same-length-2 c =
 returns : tie.Need-returns
 returns c = put c
 
-pub keep-lines-spec : {M : Type 1} → statement M
-keep-lines-spec =
+pub keep_lines_spec : {M : Type 1} → statement M
+keep_lines_spec =
     tie.close
     (tie.spec
     raise-requires

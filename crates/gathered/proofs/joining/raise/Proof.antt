@@ -13,32 +13,32 @@ use Rattle.gathered.proofs.Loops.{raised-next, raised-none, raised_all, small-mo
 use Rattle.gathered.proofs.joining.raise.Statement.{statement}
 use Rattle.gathered.proofs.joining.raise.Tie as tie
 
-abbrev invariant-loop : tie.invariant-loop
-invariant-loop column₀ places weights j₀ column j =
+abbrev invariant-loop-j : tie.invariant-loop-j
+invariant-loop-j column₀ places weights j₀ column j =
     (raised column (drop j places) (drop j weights) ≡ raised column₀ places weights) × (length column ≡ length column₀)
     × Small (j + 1) column
 
-abbrev decreases-loop : tie.decreases-loop
-decreases-loop column₀ places weights j₀ column j = length places - j
+abbrev decreases-loop-j : tie.decreases-loop-j
+decreases-loop-j column₀ places weights j₀ column j = length places - j
 
 abbrev Place : Type 0
-Place = tie.After-shared-slice-known2 invariant-loop decreases-loop
+Place = tie.After-shared_slice_known-in-loop-j-1 invariant-loop-j decreases-loop-j
 
-abbrev begin : Place → tie.Start invariant-loop decreases-loop
+abbrev begin : Place → tie.Start invariant-loop-j decreases-loop-j
 begin c = c.before.before.before.before
 
 abbrev place : Place → ℕ
-place c = get_or (begin c).args.places.now c.before.before.loop.j 0
+place c = get_or (begin c).args.places.now c.before.before.loop-j.j 0
 
 abbrev weight : Place → ℤ
-weight c = get_or (begin c).args.weights.now c.before.before.loop.j (pos 0)
+weight c = get_or (begin c).args.weights.now c.before.before.loop-j.j (pos 0)
 
 abbrev old : Place → ℤ
-old c = get_or c.before.before.loop.column (place c) (pos 0)
+old c = get_or c.before.before.loop-j.column (place c) (pos 0)
 
 small : (c : Place) → nat_abs (old c) + nat_abs (weight c) < 2 ^ 63
 small c =
-    let l = c.before.before.loop in
+    let l = c.before.before.loop-j in
     omega (
       arith,
       l.invariant.2 (place c),
@@ -46,88 +46,88 @@ small c =
           l.j,
       (begin c).requires.0,
       (begin c).requires.1,
-      c.before.loop-test.true,
+      c.before.loop-j-test.true,
     )
 
-loop-holds : tie.Need-loop-init invariant-loop decreases-loop
-loop-holds c = (refl, refl, c.before.requires.2)
+loop-holds : tie.Need-loop-j-init invariant-loop-j decreases-loop-j
+loop-holds c = (refl, refl, c.requires.2)
 
-mul-place : tie.Need-overflow-mul-place invariant-loop decreases-loop
+mul-place : tie.Need-offset_bounds-places-j invariant-loop-j decreases-loop-j
 mul-place c = search rules
 
-shared-slice-read-place : tie.Need-shared-slice-read-place invariant-loop decreases-loop
+shared-slice-read-place : tie.Need-bounds-places-j invariant-loop-j decreases-loop-j
 shared-slice-read-place c = search rules
 
-mul-add : tie.Need-overflow-mul-add invariant-loop decreases-loop
+mul-add : tie.Need-offset_bounds-column-place invariant-loop-j decreases-loop-j
 mul-add c = search rules
 
-slice-copy-out-add : tie.Need-slice-copy-out-add invariant-loop decreases-loop
+slice-copy-out-add : tie.Need-slice_copy_out-add invariant-loop-j decreases-loop-j
 slice-copy-out-add c = search rules
 
-mul-add-2 : tie.Need-overflow-mul-add-2 invariant-loop decreases-loop
+mul-add-2 : tie.Need-offset_bounds-weights-j invariant-loop-j decreases-loop-j
 mul-add-2 c = search rules
 
-shared-slice-copy-out-add : tie.Need-shared-slice-copy-out-add invariant-loop decreases-loop
+shared-slice-copy-out-add : tie.Need-bounds-weights-j invariant-loop-j decreases-loop-j
 shared-slice-copy-out-add c = search rules
 
-add-requires : tie.Need-add-requires invariant-loop decreases-loop
+add-requires : tie.Need-add-requires invariant-loop-j decreases-loop-j
 add-requires c κs =
     let p = c.before.before.before in
     both-carried (old p) (weight p) (pos 0) (small p)
 
-mul-t17 : tie.Need-overflow-mul-t17 invariant-loop decreases-loop
+mul-t17 : tie.Need-offset_bounds-column-place-then-place-column invariant-loop-j decreases-loop-j
 mul-t17 c = search rules
 
-slice-set-from-column : tie.Need-slice-set-from-column invariant-loop decreases-loop
+slice-set-from-column : tie.Need-bounds-column-place invariant-loop-j decreases-loop-j
 slice-set-from-column c = search rules
 
-add-j : tie.Need-overflow-add-j invariant-loop decreases-loop
+add-j : tie.Need-overflow_add-j invariant-loop-j decreases-loop-j
 add-j c = search rules
 
-loop-less : tie.Need-loop-smaller invariant-loop decreases-loop
+loop-less : tie.Need-loop-j-smaller invariant-loop-j decreases-loop-j
 loop-less c = search rules
 
-loop-again : tie.Need-loop-preserved invariant-loop decreases-loop
+loop-again : tie.Need-loop-j-preserved invariant-loop-j decreases-loop-j
 loop-again c =
     let s = begin c.before in
-    let l = c.before.before.before.loop in
-    let more = c.before.before.loop-test.true in
+    let l = c.loop-j in
+    let more = c.loop-j-test.true in
     ⊎_elim
     (λ w.
-    let there = w.0.taken in
-    let e : c.if1.column ≡ set l.column (place c.before) (old c.before +ℤ weight c.before) =
-    w.4 ∙ ap (set l.column (place c.before))
-    (added (old c.before) (weight c.before) _ (small c.before) w.3.ensures) in (
-      rw e (raised-next _ _ _ _ more s.pre.0) ∙ l.invariant.0,
+    let there = w.if-place-column.true in
+    let e : c.if-place-column.column ≡ set l.column (place c.before) (old c.before +ℤ weight c.before) =
+    w.column-is ∙ ap (set l.column (place c.before))
+    (added (old c.before) (weight c.before) _ (small c.before) w.add.ensures) in (
+      rw e (raised-next _ _ _ _ more s.requires.0) ∙ l.invariant.0,
       ap length e ∙ length-set l.column (place c.before) _ ∙ l.invariant.1,
       rw e (small-more l.column (place c.before) (l.j + 1) (weight c.before) there l.invariant.2
-          (s.pre.3 l.j)),
+          (s.requires.3 l.j)),
     ))
     (λ w.
-    let out = w.0.left in
-    let e = w.1 in (
-      rw e (raised-none _ _ _ _ more s.pre.0 out) ∙ l.invariant.0,
+    let out = w.if-place-column.false in
+    let e = w.column-is in (
+      rw e (raised-none _ _ _ _ more s.requires.0 out) ∙ l.invariant.0,
       ap length e ∙ l.invariant.1,
       rw e (λ i. omega (arith, l.invariant.2 i)),
     ))
-    c.if1.branch
+    c.if-place-column.branch-raw
 
-same_length : tie.Need-same-length invariant-loop decreases-loop
+same_length : tie.Need-shape_of-column invariant-loop-j decreases-loop-j
 same_length c = search rules
 
-returns : tie.Need-returns invariant-loop decreases-loop
+returns : tie.Need-returns invariant-loop-j decreases-loop-j
 returns c =
-    let s = c.before.before.before in
-    sym (raised_all c.before.loop.column s.args.places.now s.args.weights.now c.before.loop.j
-    c.loop-test.false)
-    ∙ c.before.loop.invariant.0
+    let s = c in
+    sym (raised_all c.loop-j.column s.args.places.now s.args.weights.now c.loop-j.j
+    c.loop-j-test.false)
+    ∙ c.loop-j.invariant.0
 
-pub raise-spec : {M : Type 1} → statement M
-raise-spec =
+pub raise_spec : {M : Type 1} → statement M
+raise_spec =
     tie.close
     (tie.spec
-    invariant-loop
-    decreases-loop
+    invariant-loop-j
+    decreases-loop-j
     loop-holds
     mul-place
     shared-slice-read-place

@@ -15,36 +15,36 @@ old c = get_or c.args.column.now c.args.place (pos 0)
 small : (c : tie.Start) → nat_abs (old c) + nat_abs c.args.weight < 2 ^ 63
 small c = omega (arith, c.requires.0 c.args.place, c.requires.1)
 
-returns : tie.Need-returns
-returns c = saved-none _ _ _ c.if1.true
+returns : tie.Need-returns-then-column-place
+returns c = saved-none _ _ _ c.if-column-place.true
 
-mul-add : tie.Need-overflow-mul-add
+mul-add : tie.Need-offset_bounds-column-place
 mul-add c = search rules
 
-shared-slice-copy-out-add : tie.Need-shared-slice-copy-out-add
+shared-slice-copy-out-add : tie.Need-bounds-column-place
 shared-slice-copy-out-add c = search rules
 
 add-requires : tie.Need-add-requires
 add-requires c κs =
-    let s = c.before.before in
-    both-carried (old s) s.args.weight (pos 0) (small s)
+    let s = c in
+    both-carried (old s.before.before) s.args.weight (pos 0) (small s.before.before)
 
-returns-2 : tie.Need-returns-2
+returns-2 : tie.Need-returns-then-add-eq0
 returns-2 c =
-    let added = c.before in
-    let else1 = added.before.before in
-    let s = else1.before in
-    saved-two _ _ _ else1.if1.false (sum-none (old s) s.args.weight _ (small s) added.add.ensures
-    c.if2.true)
+    let added = c in
+    let else1 = added in
+    let s = else1 in
+    saved-two _ _ _ else1.if-column-place.false (sum-none (old s.before.before.before.before) s.args.weight _ (small s.before.before.before.before) added.add.ensures
+    c.if-add-eq0.true)
 
-returns-3 : tie.Need-returns-3
+returns-3 : tie.Need-returns
 returns-3 c =
-    let added = c.before in
-    let else1 = added.before.before in
-    let s = else1.before in
-    saved-one _ _ _ else1.if1.false (sum-some (old s) s.args.weight _ (small s) added.add.ensures
-    c.if2.false)
+    let added = c in
+    let else1 = added in
+    let s = else1 in
+    saved-one _ _ _ else1.if-column-place.false (sum-some (old s.before.before.before.before) s.args.weight _ (small s.before.before.before.before) added.add.ensures
+    c.if-add-eq0.false)
 
-pub saved-spec : {M : Type 1} → statement M
-saved-spec =
+pub saved_spec : {M : Type 1} → statement M
+saved_spec =
     tie.close (tie.spec returns mul-add shared-slice-copy-out-add add-requires returns-2 returns-3)

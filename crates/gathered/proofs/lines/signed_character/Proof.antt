@@ -17,24 +17,24 @@ shape-requires c κs = search rules
 class-requires : tie.Need-class-requires
 class-requires c κs = search rules
 
-character-requires : tie.Need-character-requires
+character-requires : tie.Need-character-number-requires
 character-requires c κs = search rules
 
 times-requires : tie.Need-times-requires
 times-requires c κs =
-    let start = c.before.before.before.before in
+    let start = c in
     product-room start.args.line start.args.coefficient start.requires.0 start.requires.1 small _ _
-    c.before.before.before.shape.ensures c.before.before.class.ensures _ c.before.character.ensures
+    c.shape.ensures c.class.ensures _ c.character-number.ensures
 
 returns : tie.Need-returns
 returns c =
-    let told = c.before in
-    let start = told.before.before.before.before in
+    let told = c in
+    let start = told in
     product_is start.args.line start.args.coefficient start.requires.0 start.requires.1 small _ _
-    told.before.before.before.shape.ensures told.before.before.class.ensures _
-    told.before.character.ensures _ c.times.ensures
+    told.shape.ensures told.class.ensures _
+    told.character-number.ensures _ c.times.ensures
 
-pub signed-character-spec : {M : Type 1} → statement M
-signed-character-spec =
+pub signed_character_spec : {M : Type 1} → statement M
+signed_character_spec =
     tie.close
     (tie.spec shape-requires class-requires character-requires times-requires returns)

@@ -16,87 +16,87 @@ use Rattle.gathered.proofs.Weights.{handed-sound, handed-carried}
 use Rattle.gathered.proofs.lines.sum.Statement.{statement}
 use Rattle.gathered.proofs.lines.sum.Tie as tie
 
-abbrev invariant-loop : tie.invariant-loop
-invariant-loop lines coefficients sum₀ i₀ sum i = Summing degree_limit (alongside lines coefficients) i (to_z w64 sum)
+abbrev invariant-loop-i : tie.invariant-loop-i
+invariant-loop-i lines coefficients sum₀ i₀ sum i = Summing degree_limit (alongside lines coefficients) i (to_z w64 sum)
 
-abbrev decreases-loop : tie.decreases-loop
-decreases-loop lines coefficients sum₀ i₀ sum i = length lines - i
+abbrev decreases-loop-i : tie.decreases-loop-i
+decreases-loop-i lines coefficients sum₀ i₀ sum i = length lines - i
 
-next : (c : tie.In-loop invariant-loop decreases-loop)
-    → let a = c.before.before.before.args in
-    let i = c.before.loop.i in
-    NextLine degree_limit (alongside a.lines.now a.coefficients.now) i (to_z w64 c.before.loop.sum)
+next : (c : tie.In-loop-i invariant-loop-i decreases-loop-i)
+    → let a = c.args in
+    let i = c.loop-i.i in
+    NextLine degree_limit (alongside a.lines.now a.coefficients.now) i (to_z w64 c.loop-i.sum-bits)
     (weighted (word_at a.lines.now i) (coefficient_at a.coefficients.now i))
 next c =
-    let start = c.before.before.before in
+    let start = c in
     let words = start.args.lines.now in
     let column = start.args.coefficients.now in
     let (same, each, small) = start.requires in
-    sum-next _ _ each small _ _ c.before.loop.invariant (omega (arith, length-alongside words column same)) _
-    (alongside-at words column c.before.loop.i same c.loop-test.true)
+    sum-next _ _ each small _ _ c.loop-i.invariant (omega (arith, length-alongside words column same)) _
+    (alongside-at words column c.loop-i.i same c.loop-i-test.true)
 
 -- the coefficient as it is handed on
-room : (c : tie.In-loop invariant-loop decreases-loop)
-    → let a = c.before.before.before.args in
-    let i = c.before.loop.i in
+room : (c : tie.In-loop-i invariant-loop-i decreases-loop-i)
+    → let a = c.args in
+    let i = c.loop-i.i in
     line_value (weighted (word_at a.lines.now i) (coefficient_at a.coefficients.now i)) < 2 ^ 63
 room c = omega (arith, (next c).room)
 
-loop-holds : tie.Need-loop-init invariant-loop decreases-loop
-loop-holds c = sum-start _ _ c.before.requires.1 c.before.requires.2
+loop-holds : tie.Need-loop-i-init invariant-loop-i decreases-loop-i
+loop-holds c = sum-start _ _ c.requires.1 c.requires.2
 
-mul-signed-character : tie.Need-overflow-mul-signed-character invariant-loop decreases-loop
+mul-signed-character : tie.Need-offset_bounds-lines-i invariant-loop-i decreases-loop-i
 mul-signed-character c = search rules
 
-shared-slice-read-signed-character : tie.Need-shared-slice-read-signed-character invariant-loop decreases-loop
+shared-slice-read-signed-character : tie.Need-bounds-lines-i invariant-loop-i decreases-loop-i
 shared-slice-read-signed-character c = search rules
 
-mul-signed-character-2 : tie.Need-overflow-mul-signed-character-2 invariant-loop decreases-loop
+mul-signed-character-2 : tie.Need-offset_bounds-coefficients-i invariant-loop-i decreases-loop-i
 mul-signed-character-2 c = search rules
 
 shared-slice-copy-out-signed-character :
-    tie.Need-shared-slice-copy-out-signed-character invariant-loop decreases-loop
+    tie.Need-bounds-coefficients-i invariant-loop-i decreases-loop-i
 shared-slice-copy-out-signed-character c = search rules
 
-signed-character-requires : tie.Need-signed-character-requires invariant-loop decreases-loop
+signed-character-requires : tie.Need-signed_character-requires invariant-loop-i decreases-loop-i
 signed-character-requires c κs =
-    let turn = c.before.before in
-    handed-sound _ _ (next turn).soundness (room turn)
+    let turn = c in
+    handed-sound _ _ (next turn.before.before).soundness (room turn.before.before)
 
-add-requires : tie.Need-add-requires invariant-loop decreases-loop
+add-requires : tie.Need-add-sum-requires invariant-loop-i decreases-loop-i
 add-requires c κs =
-    let turn = c.before.before.before in
-    rw (handed-carried _ _ (next turn).soundness (room turn) _ c.signed-character.ensures)
-    (omega (arith, line-bounded (next turn).soundness, (next turn).room))
+    let turn = c in
+    rw (handed-carried _ _ (next turn.before.before.before).soundness (room turn.before.before.before) _ c.signed_character.ensures)
+    (omega (arith, line-bounded (next turn.before.before.before).soundness, (next turn.before.before.before).room))
 
-add-i : tie.Need-overflow-add-i invariant-loop decreases-loop
+add-i : tie.Need-overflow_add-i invariant-loop-i decreases-loop-i
 add-i c = search rules
 
-loop-less : tie.Need-loop-smaller invariant-loop decreases-loop
+loop-less : tie.Need-loop-i-smaller invariant-loop-i decreases-loop-i
 loop-less c = omega arith
 
-loop-again : tie.Need-loop-preserved invariant-loop decreases-loop
+loop-again : tie.Need-loop-i-preserved invariant-loop-i decreases-loop-i
 loop-again c =
-    let turn = c.before.before.before.before in
+    let turn = c in
     rw (
-      c.add.ensures,
-      handed-carried _ _ (next turn).soundness (room turn) _ c.before.signed-character.ensures,
+      c.add-sum.ensures,
+      handed-carried _ _ (next turn.before.before.before.before).soundness (room turn.before.before.before.before) _ c.signed_character.ensures,
     )
-    (next turn).again
+    (next turn.before.before.before.before).again
 
-returns : tie.Need-returns invariant-loop decreases-loop
+returns : tie.Need-returns invariant-loop-i decreases-loop-i
 returns c =
-    let start = c.before.before.before in
+    let start = c in
     let (same, each, small) = start.requires in
     let many = length-alongside start.args.lines.now start.args.coefficients.now same in
-    sum-end _ _ each small _ _ c.before.loop.invariant (omega (arith, many, c.loop-test.false))
+    sum-end _ _ each small _ _ c.loop-i.invariant (omega (arith, many, c.loop-i-test.false))
 
-pub sum-spec : {M : Type 1} → statement M
-sum-spec =
+pub sum_spec : {M : Type 1} → statement M
+sum_spec =
     tie.close
     (tie.spec
-    invariant-loop
-    decreases-loop
+    invariant-loop-i
+    decreases-loop-i
     loop-holds
     mul-signed-character
     shared-slice-read-signed-character

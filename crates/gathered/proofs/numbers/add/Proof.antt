@@ -3,7 +3,7 @@ use Rattle.pages.proofs.Signed.{sum_fits, sum_is}
 use Rattle.gathered.proofs.numbers.add.Statement.{statement}
 use Rattle.gathered.proofs.numbers.add.Tie as tie
 
-add-result : tie.Need-overflow-add-result
+add-result : tie.Need-overflow_add-result
 add-result c = sum_fits c.args.x c.args.y c.requires
 
 returns : tie.Need-returns

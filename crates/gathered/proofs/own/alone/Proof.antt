@@ -10,7 +10,7 @@ class-requires : tie.Need-class-requires
 class-requires c κs = search rules
 
 returns : tie.Need-returns
-returns c = rw (c.before.shape.ensures, c.class.ensures)
+returns c = rw (c.shape.ensures, c.class.ensures)
 
-pub alone-spec : {M : Type 1} → statement M
-alone-spec = tie.close (tie.spec shape-requires class-requires returns)
+pub alone_spec : {M : Type 1} → statement M
+alone_spec = tie.close (tie.spec shape-requires class-requires returns)

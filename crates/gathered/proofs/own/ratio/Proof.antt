@@ -12,7 +12,7 @@ use Rattle.gathered.proofs.own.ratio.Tie as tie
 alone-requires : tie.Need-alone-requires
 alone-requires c κs = search rules
 
-slice-aggregate-watch : tie.Need-slice-aggregate-watch
+slice-aggregate-watch : tie.Need-slice_bounds-watch-end
 slice-aggregate-watch c = search rules
 
 watch-requires : tie.Need-watch-requires
@@ -20,10 +20,10 @@ watch-requires c κs = search rules
 
 returns : tie.Need-returns
 returns c =
-    let start = c.before.before.before in
+    let start = c in
     c.watch.ensures
     ∙ ratio-alone start.args.line (pos 1) start.requires degree_limit (le_refl degree_limit) 0 (omega arith) _
-    c.before.before.alone.ensures
+    c.alone.ensures
 
-pub ratio-spec : {M : Type 1} → statement M
-ratio-spec = tie.close (tie.spec alone-requires slice-aggregate-watch watch-requires returns)
+pub ratio_spec : {M : Type 1} → statement M
+ratio_spec = tie.close (tie.spec alone-requires slice-aggregate-watch watch-requires returns)

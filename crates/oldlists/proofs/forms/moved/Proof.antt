@@ -32,8 +32,8 @@ returns c =
     let words : List ℕ = a.given.now in
     let to : List ℕ = a.lent.now in
     lengths-refused (form_checks degree_limit a.old) (other_form a.old) words to (⊎_elim
-    (λ w. lengths_differ words to w.taken)
-    (λ w. list-long words to w.0.left w.1.taken)
+    (λ w. lengths_differ words to w.if-given-lent.true)
+    (λ w. list-long words to w.if-given-lent.false w.if-given-gt-LIST_LIMIT.true-raw)
     c.then-given-lent.branch-raw)
 
 first-bad-requires : tie.Need-first_bad-answer-requires

@@ -16,33 +16,33 @@ use Rattle.pages.proofs.degrees.read.Tie as tie
 degree-requires : tie.Need-degree-requires
 degree-requires c κs = search rules
 
-cast-result : tie.Need-overflow-cast-result
+cast-result : tie.Need-overflow_cast-result
 cast-result c =
-    let d = c.before.before in
-    let w : ℕ = d.before.before.args.word in
+    let d = c in
+    let w : ℕ = d.args.word in
     rw (d.degree.ensures, class-carried degree_limit w (omega arith)) (tt, omega (arith, class-small degree_limit w))
 
-returns : tie.Need-returns
+returns : tie.Need-returns-then-class
 unfolding word_degree
 returns c =
-    let d = c.before.before in
-    let w : ℕ = d.before.before.args.word in
-    rw (d.degree.ensures, class-carried degree_limit w (omega arith), d.before.if1.true)
+    let d = c in
+    let w : ℕ = d.args.word in
+    rw (d.degree.ensures, class-carried degree_limit w (omega arith), d.if-class.true)
 
-returns-2 : tie.Need-returns-2
+returns-2 : tie.Need-returns-then-word-ge-SHAPE_WORDS
 unfolding word_degree
 returns-2 c =
-    let w : ℕ = c.before.before.args.word in
-    rw (c.before.if1.false, le-ltb w (2 ^ shape_width) (omega (arith, c.if2.true)))
+    let w : ℕ = c.args.word in
+    rw (c.if-class.false, le-ltb w (2 ^ shape_width) (omega (arith, c.if-word-ge-SHAPE_WORDS.true)))
 
 read-requires : tie.Need-read-requires
 read-requires c κs = search rules
 
-returns-3 : tie.Need-returns-3
+returns-3 : tie.Need-returns
 unfolding word_degree
 returns-3 c =
-    let w : ℕ = c.before.before.before.args.word in
-    rw (c.before.before.if1.false, lt-ltb w (2 ^ shape_width) (omega (arith, c.before.if2.false)))
+    let w : ℕ = c.args.word in
+    rw (c.if-class.false, lt-ltb w (2 ^ shape_width) (omega (arith, c.if-word-ge-SHAPE_WORDS.false)))
     (ap (λ (x : ShapeReading). x.degree) c.read.ensures)
 
 pub read_spec : {M : Type 1} → statement M

@@ -11,63 +11,63 @@ use Rattle.pages.proofs.degrees.word_degree.Tie as tie
 read-requires : tie.Need-read-requires
 read-requires c κs = search rules
 
-returns : tie.Need-returns
+returns : tie.Need-returns-then-known-lt-PLACES
 returns c = search rules
 
-mul-found : tie.Need-overflow-mul-found
+mul-found : tie.Need-offset_bounds-known-place
 mul-found c = search rules
 
-slice-read-found : tie.Need-slice-read-found
+slice-read-found : tie.Need-bounds-known-place
 slice-read-found c = search rules
 
-cast-result : tie.Need-overflow-cast-result
+cast-result : tie.Need-overflow_cast-result
 cast-result c = search rules
 
-returns-2 : tie.Need-returns-2
+returns-2 : tie.Need-returns-then-found-word
 returns-2 c =
-    let else1 = c.before.before in
-    let start = else1.before.before in
+    let else1 = c in
+    let start = else1 in
     let a = start.args in (
       known-degree (word_degree degree_limit a.class) a.known.now (a.word % 229) _ start.requires
-          (omega (arith, else1.if1.false))
-          c.if2.true,
+          (omega (arith, else1.if-known-lt-PLACES.false))
+          c.if-found-word.true,
       start.requires,
     )
 
-read-requires-2 : tie.Need-read-requires-2
+read-requires-2 : tie.Need-read-degree-requires
 read-requires-2 c κs = search rules
 
-mul-known : tie.Need-overflow-mul-known
+mul-known : tie.Need-overflow_mul-known
 mul-known c = search rules
 
-cast-known : tie.Need-overflow-cast-known
+cast-known : tie.Need-overflow_cast-known-2
 cast-known c = search rules
 
-add-known : tie.Need-overflow-add-known
+add-known : tie.Need-overflow_add-known
 add-known c = search rules
 
-mul-known-2 : tie.Need-overflow-mul-known-2
+mul-known-2 : tie.Need-offset_bounds-known-place-2
 mul-known-2 c = search rules
 
-slice-write-known : tie.Need-slice-write-known
+slice-write-known : tie.Need-bounds-known-place-2
 slice-write-known c = search rules
 
-same_length : tie.Need-same-length
+same_length : tie.Need-shape_of-known
 same_length c = search rules
 
-returns-3 : tie.Need-returns-3
+returns-3 : tie.Need-returns
 returns-3 c =
-    let start = c.before.before.before.before.before in
+    let start = c in
     let a = start.args in
     let small = word_small degree_limit a.class a.word in (
-      c.read2.ensures,
-      one-more-known (word_degree degree_limit a.class) a.known.now (a.word % 229) a.word c.read2.result
+      c.read-degree.ensures,
+      one-more-known (word_degree degree_limit a.class) a.known.now (a.word % 229) a.word c.read-degree.result
           start.requires
-          c.read2.ensures (omega (arith, c.read2.ensures)),
+          c.read-degree.ensures (omega (arith, c.read-degree.ensures)),
     )
 
-pub word-degree-spec : {M : Type 1} → statement M
-word-degree-spec =
+pub word_degree_spec : {M : Type 1} → statement M
+word_degree_spec =
     tie.close
     (tie.spec
     read-requires

@@ -10,67 +10,67 @@ use Rattle.pages.proofs.gathering.afforded.Statement.{statement}
 use Rattle.pages.proofs.gathering.afforded.Tie as tie
 
 -- where the function began
-abbrev start : tie.After-spent → tie.Start
+abbrev start : tie.After-spent-after → tie.Start
 start c = c.before.before.before.before
 
-slice-aggregate-spent : tie.Need-slice-aggregate-spent
+slice-aggregate-spent : tie.Need-slice_bounds-spent-end
 slice-aggregate-spent c = search rules
 
-slice-aggregate-spent-2 : tie.Need-slice-aggregate-spent-2
+slice-aggregate-spent-2 : tie.Need-slice_bounds-spent-end-2
 slice-aggregate-spent-2 c = search rules
 
-spent-requires : tie.Need-spent-requires
+spent-requires : tie.Need-spent-after-requires
 spent-requires c κs = (factorials-table, spans-tabled)
 
-slice-aggregate-besides : tie.Need-slice-aggregate-besides
+slice-aggregate-besides : tie.Need-slice_bounds-besides-end
 slice-aggregate-besides c = search rules
 
-slice-aggregate-besides-2 : tie.Need-slice-aggregate-besides-2
+slice-aggregate-besides-2 : tie.Need-slice_bounds-besides-end-then-lines-lt-MANY
 slice-aggregate-besides-2 c = search rules
 
 besides-requires : tie.Need-besides-requires
 besides-requires c κs =
-    let same = c.before.before.before.before.before.before.before.before.requires in
+    let same = c.requires in
     (same, factorials-table, (nothing_known 0).of-shapes)
 
-returns : tie.Need-returns
+returns : tie.Need-returns-then-lines-lt-MANY
 returns c =
-    let then1 = c.before.before.before.before.before in
-    let spent = then1.before in
-    let a = (start spent).args in
-    c.before.besides.ensures
-    ∙ then-besides degree_limit a.lines.now a.coefficients.now (start spent).requires a.budget _
-    spent.spent.ensures then1.if1.true
+    let then1 = c in
+    let spent = then1 in
+    let a = (start spent.before.before.before.before.before.before).args in
+    c.besides.ensures
+    ∙ then-besides degree_limit a.lines.now a.coefficients.now (start spent.before.before.before.before.before.before).requires a.budget _
+    spent.spent-after.ensures then1.if-after.true
 
-slice-aggregate-besides-3 : tie.Need-slice-aggregate-besides-3
+slice-aggregate-besides-3 : tie.Need-slice_bounds-besides-end-then-after
 slice-aggregate-besides-3 c = search rules
 
-slice-aggregate-besides-4 : tie.Need-slice-aggregate-besides-4
+slice-aggregate-besides-4 : tie.Need-slice_bounds-besides-end-then-after-2
 slice-aggregate-besides-4 c = search rules
 
-besides-requires-2 : tie.Need-besides-requires-2
+besides-requires-2 : tie.Need-besides-requires-then-after
 besides-requires-2 c κs =
-    let same = c.before.before.before.before.before.before.before.before.requires in
+    let same = c.requires in
     (same, factorials-table, (nothing_known 229).of-shapes)
 
-returns-2 : tie.Need-returns-2
+returns-2 : tie.Need-returns-then-after
 returns-2 c =
-    let then1 = c.before.before.before.before.before in
-    let spent = then1.before in
-    let a = (start spent).args in
-    c.before.besides2.ensures
-    ∙ then-besides degree_limit a.lines.now a.coefficients.now (start spent).requires a.budget _
-    spent.spent.ensures then1.if1.true
+    let then1 = c in
+    let spent = then1 in
+    let a = (start spent.before.before.before.before.before.before).args in
+    c.besides-then-after.ensures
+    ∙ then-besides degree_limit a.lines.now a.coefficients.now (start spent.before.before.before.before.before.before).requires a.budget _
+    spent.spent-after.ensures then1.if-after.true
 
-returns-3 : tie.Need-returns-3
+returns-3 : tie.Need-returns
 returns-3 c =
-    let spent = c.before in
-    let a = (start spent).args in
-    words-dear degree_limit a.lines.now a.coefficients.now (start spent).requires a.budget _
-    spent.spent.ensures c.if1.false
+    let spent = c in
+    let a = (start spent.before).args in
+    words-dear degree_limit a.lines.now a.coefficients.now (start spent.before).requires a.budget _
+    spent.spent-after.ensures c.if-after.false
 
-pub afforded-spec : {M : Type 1} → statement M
-afforded-spec =
+pub afforded_spec : {M : Type 1} → statement M
+afforded_spec =
     tie.close
     (tie.spec
     slice-aggregate-spent

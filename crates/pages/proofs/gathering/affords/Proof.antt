@@ -24,19 +24,19 @@ by-division value times cost some =
     (λ t. le-leb (times * cost) value (either.0 (leb-true times (value / cost) t)))
     (λ t. le-leb times (value / cost) (either.1 (leb-true (times * cost) value t)))
 
-mul-result : tie.Need-overflow-mul-result
+mul-result : tie.Need-overflow_mul-result
 mul-result c =
-    let start = c.before in
-    record { fits = has_room start.args.times start.args.cost c.if1.true start.requires.1 }
+    let start = c in
+    record { fits = has_room start.args.times start.args.cost c.if-times-lt-FEW_TIMES.true start.requires.1 }
 
-returns : tie.Need-returns
+returns : tie.Need-returns-then-times-lt-FEW_TIMES
 returns c = refl
 
-div-result : tie.Need-nonzero-div-result
+div-result : tie.Need-nonzero_div-result
 div-result c = search rules
 
-returns-2 : tie.Need-returns-2
-returns-2 c = by-division _ _ _ c.before.requires.0
+returns-2 : tie.Need-returns
+returns-2 c = by-division _ _ _ c.requires.0
 
-pub affords-spec : {M : Type 1} → statement M
-affords-spec = tie.close (tie.spec mul-result returns div-result returns-2)
+pub affords_spec : {M : Type 1} → statement M
+affords_spec = tie.close (tie.spec mul-result returns div-result returns-2)

@@ -12,47 +12,47 @@ use Rattle.pages.proofs.gathering.cost.Statement.{statement}
 use Rattle.pages.proofs.gathering.cost.Tie as tie
 
 -- where the function began
-abbrev start : tie.After-word-degree → tie.Start
+abbrev start : tie.After-word_degree-degree → tie.Start
 start c = c.before.before.before.before.before
 
-degree-is : (c : tie.After-word-degree)
-    → c.word-degree.result ≡ word_degree degree_limit false (line_of (start c).args.line).shape
-degree-is c = c.word-degree.ensures.0 ∙ ap (word_degree degree_limit false) c.before.before.shape.ensures
+degree-is : (c : tie.After-word_degree-degree)
+    → c.word_degree-degree.result ≡ word_degree degree_limit false (line_of (start c).args.line).shape
+degree-is c = c.word_degree-degree.ensures.0 ∙ ap (word_degree degree_limit false) c.shape.ensures
 
 shape-requires : tie.Need-shape-requires
 shape-requires c κs = search rules
 
-word-degree-requires : tie.Need-word-degree-requires
+word-degree-requires : tie.Need-word_degree-degree-requires
 word-degree-requires c κs = search rules
 
-cast-result : tie.Need-overflow-cast-result
+cast-result : tie.Need-overflow_cast-result
 cast-result c = search rules
 
-mul-result : tie.Need-overflow-mul-result
+mul-result : tie.Need-offset_bounds-factorials-degree
 mul-result c = search rules
 
-shared-slice-read-result : tie.Need-shared-slice-read-result
+shared-slice-read-result : tie.Need-bounds-factorials-degree
 shared-slice-read-result c =
-    let d = c.before.before.before in
-    let p = (start d).requires in
-    let small = word_small degree_limit false (line_of (start d).args.line).shape in
-    omega (arith, p.0.size, degree-is d, small)
+    let d = c in
+    let p = (start d.before.before.before).requires in
+    let small = word_small degree_limit false (line_of (start d.before.before.before).args.line).shape in
+    omega (arith, p.0.size, degree-is d.before.before.before, small)
 
-same_length : tie.Need-same-length
+same_length : tie.Need-shape_of-shapes
 same_length c = search rules
 
 returns : tie.Need-returns
 returns c =
-    let d = c.before.before.before in
-    let p = (start d).requires in
-    let w = (line_of (start d).args.line).shape in (
-      ap (λ k. get_or (start d).args.factorials.now k 0) (degree-is d)
+    let d = c in
+    let p = (start d.before.before.before).requires in
+    let w = (line_of (start d.before.before.before).args.line).shape in (
+      ap (λ k. get_or (start d.before.before.before).args.factorials.now k 0) (degree-is d.before.before.before)
           ∙ tabled-is p.0 _ (word_small degree_limit false w),
-      d.word-degree.ensures.1,
+      d.word_degree-degree.ensures.1,
     )
 
-pub cost-spec : {M : Type 1} → statement M
-cost-spec =
+pub cost_spec : {M : Type 1} → statement M
+cost_spec =
     tie.close
     (tie.spec
     shape-requires

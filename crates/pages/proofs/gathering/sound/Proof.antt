@@ -17,26 +17,26 @@ use Rattle.pages.proofs.gathering.sound.Statement.{statement}
 use Rattle.pages.proofs.gathering.sound.Tie as tie
 
 -- ---- places: where the lines fit, the arguments, where the budgets suffice, and where no two lines are equal
-abbrev fitting : tie.After-afforded → tie.Else2
-fitting c = c.before.before.before.before
+abbrev fitting : tie.After-afforded → tie.Else-page-lines
+fitting c = c.before.before
 
-abbrev begin : tie.Else2 → tie.Start
+abbrev begin : tie.Else-page-lines → tie.Start
 begin c = c.before.before.before.before
 
-abbrev paid : tie.After-different → tie.Then3
-paid c = c.before.before
+abbrev paid : tie.After-different → tie.Then-afforded
+paid c = c.before
 
-abbrev apart : tie.After-words → tie.Then4
+abbrev apart : tie.After-words → tie.Then-different
 apart c = c.before.before
 
-abbrev fitting-then : tie.Then4 → tie.Else2
+abbrev fitting-then : tie.Then-different → tie.Else-page-lines
 fitting-then c = fitting (paid c.before).before
 
 -- ---- what is known there
-says : (c : tie.Else2) → (begin c).args.slip.mode ≡ 1
-says c = c.before.if1.false
+says : (c : tie.Else-page-lines) → (begin c).args.slip.mode ≡ 1
+says c = c.if-slip-ne-GATHERED.false
 
-same : (c : tie.Else2) → length (begin c).args.page.now ≡ length (begin c).args.coefficients.now
+same : (c : tie.Else-page-lines) → length (begin c).args.page.now ≡ length (begin c).args.coefficients.now
 same c = (begin c).requires.1
 
 is-afforded : (c : tie.After-afforded)
@@ -47,17 +47,17 @@ is-afforded c =
     let n = a.slip.lines in
     c.afforded.ensures
     ∙ ap (λ (b : Budget). afforded degree_limit b (alongside (take n a.page.now) (take n a.coefficients.now)))
-    c.before.before.before.budget.ensures
+    c.budget-before.ensures
 
-are-paid : (c : tie.Then3)
+are-paid : (c : tie.Then-afforded)
     → let a = (begin (fitting c.before)).args in
     are_afforded degree_limit a.slip a.page.now a.coefficients.now ≡ true
-are-paid c = sym (is-afforded c.before) ∙ c.if3.true
+are-paid c = sym (is-afforded c.before) ∙ c.if-afforded.true
 
-are-apart : (c : tie.Then4)
+are-apart : (c : tie.Then-different)
     → let a = (begin (fitting-then c)).args in
     all_different (take a.slip.lines a.page.now) ≡ true
-are-apart c = sym c.before.different.ensures ∙ c.if4.true
+are-apart c = sym c.different.ensures ∙ c.if-different.true
 
 is-idle : (c : tie.After-words)
     → let a = (begin (fitting-then (apart c))).args in
@@ -66,99 +66,99 @@ is-idle c =
     let a = (begin (fitting-then (apart c))).args in
     c.words.ensures ∙ ap (every (◌=? 0)) (all_from a.page.now a.slip.lines)
 
-returns : tie.Need-returns
-returns c = other-mode gathered_mode _ _ _ c.if1.true
+returns : tie.Need-returns-then-slip-ne-GATHERED
+returns c = other-mode gathered_mode _ _ _ c.if-slip-ne-GATHERED.true
 
-returns-2 : tie.Need-returns-2
-returns-2 c = lines_long gathered_mode _ _ _ c.if2.true
+returns-2 : tie.Need-returns-then-page-lines
+returns-2 c = lines_long gathered_mode _ _ _ c.if-page-lines.true
 
-budget-requires : tie.Need-budget-requires
+budget-requires : tie.Need-budget-before-requires
 budget-requires c κs = search rules
 
-slice-aggregate-afforded : tie.Need-slice-aggregate-afforded
-slice-aggregate-afforded c = sym (length-take-le _ _ c.before.before.if2.false)
+slice-aggregate-afforded : tie.Need-slice_bounds-afforded-end
+slice-aggregate-afforded c = sym (length-take-le _ _ c.if-page-lines.false)
 
-slice-aggregate-afforded-2 : tie.Need-slice-aggregate-afforded-2
+slice-aggregate-afforded-2 : tie.Need-slice_bounds-afforded-end-2
 slice-aggregate-afforded-2 c =
-    let f = c.before.before.before in
-    sym (length-take-le _ _ (omega (arith, f.if2.false, same f)))
+    let f = c in
+    sym (length-take-le _ _ (omega (arith, f.if-page-lines.false, same f.before)))
 
 afforded-requires : tie.Need-afforded-requires
 afforded-requires c κs =
-    let f = c.before.before.before in
-    as_many _ _ _ f.if2.false (same f)
+    let f = c in
+    as_many _ _ _ f.if-page-lines.false (same f.before)
 
-slice-aggregate-different : tie.Need-slice-aggregate-different
-slice-aggregate-different c = sym (length-take-le _ _ (fitting c.before.before).if2.false)
+slice-aggregate-different : tie.Need-slice_bounds-different-end
+slice-aggregate-different c = sym (length-take-le _ _ (fitting c.before).if-page-lines.false)
 
 different-requires : tie.Need-different-requires
 different-requires c κs =
-    let f = fitting c.before.before in
+    let f = fitting c.before in
     let a = (begin f).args in
-    omega (arith, length-take-le a.slip.lines a.page.now f.if2.left, (begin f).pre.0, f.if2.left)
+    omega (arith, length-take-le a.slip.lines a.page.now f.if-page-lines.false, (begin f).requires.0, f.if-page-lines.false)
 
-mul_words : tie.Need-overflow-mul-words
+mul_words : tie.Need-offset_bounds-page-lines
 mul_words c = search rules
 
-sub_words : tie.Need-overflow-sub-words
+sub_words : tie.Need-slice_bounds-words-count
 sub_words c = search rules
 
-part-words-start : tie.Need-slice-bounds-words-start
+part-words-start : tie.Need-slice_bounds-words-start
 part-words-start c = search rules
 
-part-words-end : tie.Need-slice-bounds-words-end
+part-words-end : tie.Need-slice_bounds-words-end
 part-words-end c = search rules
 
 words-requires : tie.Need-words-requires
 words-requires c κs = search rules
 
-mul-coefficients : tie.Need-overflow-mul-coefficients
+mul-coefficients : tie.Need-offset_bounds-coefficients-lines
 mul-coefficients c = search rules
 
-sub-coefficients : tie.Need-overflow-sub-coefficients
+sub-coefficients : tie.Need-slice_bounds-coefficients-count
 sub-coefficients c = search rules
 
-part-coefficients-start : tie.Need-slice-bounds-coefficients-start
+part-coefficients-start : tie.Need-slice_bounds-coefficients-start
 part-coefficients-start c = search rules
 
-part-coefficients-end : tie.Need-slice-bounds-coefficients-end
+part-coefficients-end : tie.Need-slice_bounds-coefficients-end
 part-coefficients-end c = search rules
 
 coefficients-requires : tie.Need-coefficients-requires
 coefficients-requires c κs = search rules
 
-returns-3 : tie.Need-returns-3
+returns-3 : tie.Need-returns-then-words
 returns-3 c =
-    let then5 = c.before.before in
-    let differs = apart then5.before in
+    let then5 = c in
+    let differs = apart then5.before.before.before in
     let f = fitting-then differs in
     let a = (begin f).args in
     c.coefficients.ensures ∙ ap (every (λ z. nat_abs z =? 0)) (all_from a.coefficients.now a.slip.lines)
-    ∙ then-column _ a.slip _ _ (says f) f.if2.left (same f) (are-paid (paid differs.before))
+    ∙ then-column _ a.slip _ _ (says f) f.if-page-lines.false (same f) (are-paid (paid differs.before))
     (are-apart differs)
-    (sym (is-idle then5.before) ∙ then5.if5.true)
+    (sym (is-idle then5.before.before.before) ∙ then5.if-words.true)
 
-returns-4 : tie.Need-returns-4
+returns-4 : tie.Need-returns-else-words
 returns-4 c =
     let differs = apart c.before in
     let f = fitting-then differs in
-    not-idle _ (begin f).args.slip _ _ (says f) f.if2.left (same f) (are-paid (paid differs.before))
-    (are-apart differs) (sym (is-idle c.before) ∙ c.if5.false)
+    not-idle _ (begin f).args.slip _ _ (says f) f.if-page-lines.false (same f) (are-paid (paid differs.before))
+    (are-apart differs) (sym (is-idle c.before) ∙ c.if-words.false)
 
-returns-5 : tie.Need-returns-5
+returns-5 : tie.Need-returns-else-different
 returns-5 c =
     let f = fitting (paid c.before).before in
-    two-equal _ (begin f).args.slip _ _ (says f) f.if2.left (same f) (are-paid (paid c.before))
-    (sym c.before.different.ensures ∙ c.if4.false)
+    two-equal _ (begin f).args.slip _ _ (says f) f.if-page-lines.false (same f) (are-paid (paid c.before))
+    (sym c.different.ensures ∙ c.if-different.false)
 
-returns-6 : tie.Need-returns-6
+returns-6 : tie.Need-returns-else-afforded
 returns-6 c =
     let f = fitting c.before in
-    not-afforded _ (begin f).args.slip _ _ (says f) f.if2.left (same f)
-    (sym (is-afforded c.before) ∙ c.if3.false)
+    not-afforded _ (begin f).args.slip _ _ (says f) f.if-page-lines.false (same f)
+    (sym (is-afforded c.before) ∙ c.if-afforded.false)
 
-pub sound-spec : {M : Type 1} → statement M
-sound-spec =
+pub sound_spec : {M : Type 1} → statement M
+sound_spec =
     tie.close
     (tie.spec
     returns

@@ -23,148 +23,148 @@ use Rattle.pages.proofs.paying.first.Statement.{statement}
 use Rattle.pages.proofs.paying.first.Tie as tie
 
 -- ---- places: where the words have passed, where the steps are not negative, and where n! is paid
-abbrev begin : tie.Else2 → tie.Start
+abbrev begin : tie.Else-asked-ne0 → tie.Start
 begin c = c.before.before.before.before.before.before.before
 
-abbrev slip : tie.Else2 → Slip
+abbrev slip : tie.Else-asked-ne0 → Slip
 slip c = (begin c).args.slip
 
-abbrev passed : tie.Else3 → tie.Else2
+abbrev passed : tie.Else-slip-lt0 → tie.Else-asked-ne0
 passed c = c.before.before.before
 
-abbrev paid : tie.Else4 → tie.Else3
+abbrev paid : tie.Else-value-settled → tie.Else-slip-lt0
 paid c = c.before.before.before.before
 
 -- ---- what is known there
-good : (c : tie.Else2) → good_shape (slip c).shape ≡ true
-good c = lt-ltb (slip c).shape (2 ^ shape_width) (omega (arith, c.before.before.before.if1.false))
+good : (c : tie.Else-asked-ne0) → good_shape (slip c).shape ≡ true
+good c = lt-ltb (slip c).shape (2 ^ shape_width) (omega (arith, c.if-slip-ge-SHAPE_WORDS.false))
 
-pair : (c : tie.Else2) → Pair degree_limit (slip c).shape (slip c).class c.before.before.common-degree.result
-pair c = pair-passed _ _ _ _ c.before.before.common-degree.ensures c.if2.false
+pair : (c : tie.Else-asked-ne0) → Pair degree_limit (slip c).shape (slip c).class c.common_degree-asked.result
+pair c = pair-passed _ _ _ _ c.common_degree-asked.ensures c.if-asked-ne0.false
 
-small : (c : tie.Else2) → c.before.before.common-degree.result.degree ≤ degree_limit
+small : (c : tie.Else-asked-ne0) → c.common_degree-asked.result.degree ≤ degree_limit
 small c = omega (arith, (pair c).degree, (pair c).words.shape.small, ap degree (pair c).its_shape)
 
-sound-words : (c : tie.Else2) → sound_words degree_limit (slip c) ≡ true
+sound-words : (c : tie.Else-asked-ne0) → sound_words degree_limit (slip c) ≡ true
 sound-words c = rw (good c, (pair c).none)
 
-settled-fits : (c : tie.Else2) → SFits w64 (slip c).settled
+settled-fits : (c : tie.Else-asked-ne0) → SFits w64 (slip c).settled
 settled-fits c = search rules
 
-steps-fits : (c : tie.Else2) → SFits w64 (slip c).steps
+steps-fits : (c : tie.Else-asked-ne0) → SFits w64 (slip c).steps
 steps-fits c = search rules
 
-forward : (c : tie.Else3) → non_neg (slip (passed c)).steps ≡ true
+forward : (c : tie.Else-slip-lt0) → non_neg (slip (passed c)).steps ≡ true
 forward c =
     let p = passed c in
-    not-false (non_neg (slip p).steps) (sym (below-zero (slip p).steps (steps-fits p)) ∙ c.if3.false)
+    not-false (non_neg (slip p).steps) (sym (below-zero (slip p).steps (steps-fits p)) ∙ c.if-slip-lt0.false)
 
-settled-size : (c : tie.After-size) → c.size.result ≡ nat_abs (slip (passed c.before.before)).settled
-settled-size c = c.size.ensures ∙ ap nat_abs (to_z-of_z (settled-fits (passed c.before.before)))
+settled-size : (c : tie.After-size-settled) → c.size-settled.result ≡ nat_abs (slip (passed c.before.before)).settled
+settled-size c = c.size-settled.ensures ∙ ap nat_abs (to_z-of_z (settled-fits (passed c.before.before)))
 
-steps-size : (c : tie.After-size2) → c.size2.result ≡ nat_abs (slip (passed (paid c.before.before))).steps
-steps-size c = c.size2.ensures ∙ ap nat_abs (to_z-of_z (steps-fits (passed (paid c.before.before))))
+steps-size : (c : tie.After-size-steps) → c.size-steps.result ≡ nat_abs (slip (passed (paid c.before.before))).steps
+steps-size c = c.size-steps.ensures ∙ ap nat_abs (to_z-of_z (steps-fits (passed (paid c.before.before))))
 
 -- ---- the tests
 overspent-requires : tie.Need-overspent-requires
 overspent-requires c κs = search rules
 
-returns : tie.Need-returns
+returns : tie.Need-returns-then-slip-ge-SHAPE_WORDS
 returns c =
-    let s = c.before.before.before.before.before.args.slip in
-    let bad = le-ltb s.shape (2 ^ shape_width) (omega (arith, c.before.if1.true)) in
+    let s = c.args.slip in
+    let bad = le-ltb s.shape (2 ^ shape_width) (omega (arith, c.if-slip-ge-SHAPE_WORDS.true)) in
     c.overspent.ensures ∙ shape-not-good degree_limit s bad
 
-common-degree-requires : tie.Need-common-degree-requires
+common-degree-requires : tie.Need-common_degree-asked-requires
 common-degree-requires c κs = search rules
 
-overspent-requires-2 : tie.Need-overspent-requires-2
+overspent-requires-2 : tie.Need-overspent-requires-then-asked-ne0
 overspent-requires-2 c κs = search rules
 
-returns-2 : tie.Need-returns-2
+returns-2 : tie.Need-returns-then-asked-ne0
 returns-2 c =
-    let j = c.before.before.before in
-    let s = j.before.before.before.before.before.args.slip in
-    let good = lt-ltb s.shape (2 ^ shape_width) (omega (arith, j.before.if1.false)) in
-    c.overspent2.ensures
+    let j = c in
+    let s = j.args.slip in
+    let good = lt-ltb s.shape (2 ^ shape_width) (omega (arith, j.if-slip-ge-SHAPE_WORDS.false)) in
+    c.overspent-then-asked-ne0.ensures
     ∙ words-refused degree_limit s good
-    (λ none. c.before.if2.true (pair-refused _ _ _ _ j.common-degree.ensures ∙ none))
+    (λ none. c.if-asked-ne0.true (pair-refused _ _ _ _ j.common_degree-asked.ensures ∙ none))
 
-overspent-requires-3 : tie.Need-overspent-requires-3
+overspent-requires-3 : tie.Need-overspent-requires-then-slip-lt0
 overspent-requires-3 c κs = search rules
 
-returns-3 : tie.Need-returns-3
+returns-3 : tie.Need-returns-then-slip-lt0
 returns-3 c =
-    let p = c.before.before.before.before in
-    c.overspent3.ensures
-    ∙ steps_back _ (slip p) (sound-words p)
-    (not-true (non_neg (slip p).steps) (sym (below-zero (slip p).steps (steps-fits p)) ∙ c.before.if3.true))
+    let p = c in
+    c.overspent-then-slip-lt0.ensures
+    ∙ steps_back _ (slip p.before.before.before.before) (sound-words p.before.before.before.before)
+    (not-true (non_neg (slip p.before.before.before.before).steps) (sym (below-zero (slip p.before.before.before.before).steps (steps-fits p.before.before.before.before)) ∙ c.if-slip-lt0.true))
 
-size-requires : tie.Need-size-requires
+size-requires : tie.Need-size-settled-requires
 size-requires c κs = search rules
 
-cast-value : tie.Need-overflow-cast-value
+cast-value : tie.Need-overflow_cast-value
 cast-value c = search rules
 
-mul-value : tie.Need-overflow-mul-value
+mul-value : tie.Need-offset_bounds-factorials-degree
 mul-value c = search rules
 
-shared-slice-read-value : tie.Need-shared-slice-read-value
+shared-slice-read-value : tie.Need-bounds-factorials-degree
 shared-slice-read-value c =
     let p = passed c.before.before.before in
-    omega (arith, small p, (begin p).pre.0.size)
+    omega (arith, small p, (begin p).requires.0.size)
 
-overspent-requires-4 : tie.Need-overspent-requires-4
+overspent-requires-4 : tie.Need-overspent-requires-then-value-settled
 overspent-requires-4 c κs = search rules
 
-returns-4 : tie.Need-returns-4
+returns-4 : tie.Need-returns-then-value-settled
 returns-4 c =
-    let sized = c.before.before.before in
-    let e = sized.before.before in
-    let p = passed e in
-    c.overspent4.ensures
-    ∙ settled-dear _ (slip p) (sound-words p) (forward e) _ (pair p).degree _ (settled-size sized) _
-    (tabled-is (begin p).pre.0 _ (small p)) c.before.if4.true
+    let sized = c in
+    let e = sized in
+    let p = passed e.before.before.before.before.before in
+    c.overspent-then-value-settled.ensures
+    ∙ settled-dear _ (slip p) (sound-words p) (forward e.before.before.before.before.before) _ (pair p).degree _ (settled-size sized.before.before.before) _
+    (tabled-is (begin p).requires.0 _ (small p)) c.if-value-settled.true
 
-size-requires-2 : tie.Need-size-requires-2
+size-requires-2 : tie.Need-size-steps-requires
 size-requires-2 c κs = search rules
 
-cast-span : tie.Need-overflow-cast-span
+cast-span : tie.Need-overflow_cast-span
 cast-span c = search rules
 
-mul-span : tie.Need-overflow-mul-span
+mul-span : tie.Need-offset_bounds-spans-degree
 mul-span c = search rules
 
-shared-slice-read-span : tie.Need-shared-slice-read-span
+shared-slice-read-span : tie.Need-bounds-spans-degree
 shared-slice-read-span c =
     let p = passed (paid c.before.before.before) in
-    omega (arith, small p, (begin p).pre.1.size)
+    omega (arith, small p, (begin p).requires.1.size)
 
-overspent-requires-5 : tie.Need-overspent-requires-5
+overspent-requires-5 : tie.Need-overspent-requires-then-span-steps
 overspent-requires-5 c κs = search rules
 
-returns-5 : tie.Need-returns-5
+returns-5 : tie.Need-returns-then-span-steps
 returns-5 c =
-    let sized2 = c.before.before.before in
-    let else4 = sized2.before.before in
-    let sized = else4.before.before in
-    let e = paid else4 in
+    let sized2 = c in
+    let else4 = sized2 in
+    let sized = else4 in
+    let e = paid else4.before.before.before.before.before in
     let p = passed e in
-    c.overspent5.ensures
-    ∙ steps-long _ (slip p) (sound-words p) (forward e) _ (pair p).degree _ (settled-size sized) _
-    (tabled-is (begin p).pre.0 _ (small p)) else4.if4.false _ (steps-size sized2) _
-    (tabled-is (begin p).pre.1 _ (small p)) c.before.if5.true
+    c.overspent-then-span-steps.ensures
+    ∙ steps-long _ (slip p) (sound-words p) (forward e) _ (pair p).degree _ (settled-size sized.before.before.before.before.before.before.before) _
+    (tabled-is (begin p).requires.0 _ (small p)) else4.if-value-settled.false _ (steps-size sized2.before.before.before) _
+    (tabled-is (begin p).requires.1 _ (small p)) c.if-span-steps.true
 
-returns-6 : tie.Need-returns-6
+returns-6 : tie.Need-returns
 returns-6 c =
-    let sized2 = c.before.before in
-    let else4 = sized2.before.before in
-    let sized = else4.before.before in
-    let e = paid else4 in
+    let sized2 = c in
+    let else4 = sized2 in
+    let sized = else4 in
+    let e = paid else4.before.before.before.before in
     let p = passed e in
-    first-left _ (slip p) (sound-words p) (forward e) _ (pair p).degree _ (settled-size sized) _
-    (tabled-is (begin p).pre.0 _ (small p)) else4.if4.false _ (steps-size sized2) _
-    (tabled-is (begin p).pre.1 _ (small p)) c.if5.false
+    first-left _ (slip p) (sound-words p) (forward e) _ (pair p).degree _ (settled-size sized.before.before.before.before.before.before) _
+    (tabled-is (begin p).requires.0 _ (small p)) else4.if-value-settled.false _ (steps-size sized2.before.before) _
+    (tabled-is (begin p).requires.1 _ (small p)) c.if-span-steps.false
 
 pub first_spec : {M : Type 1} → statement M
 first_spec =

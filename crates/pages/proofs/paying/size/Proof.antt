@@ -9,35 +9,35 @@ use Rattle.pages.proofs.Signed.{Turned, turned_up, below-zero, not-below-zero}
 use Rattle.pages.proofs.paying.size.Statement.{statement}
 use Rattle.pages.proofs.paying.size.Tie as tie
 
-turns : (c : tie.Then1) → Turned c.before.args.z
-turns c = turned_up _ c.before.ranges.z c.if1.true
+turns : (c : tie.Then-z-lt0) → Turned c.args.z
+turns c = turned_up _ c.ranges.z c.if-z-lt0.true
 
-add-result : tie.Need-overflow-add-result
+add-result : tie.Need-overflow_add-result
 add-result c = (turns c).up_fits
 
-sub-result : tie.Need-overflow-sub-result
+sub-result : tie.Need-overflow_sub-result
 sub-result c = (turns c).turned-fits
 
-cast-result : tie.Need-overflow-cast-result
+cast-result : tie.Need-overflow_cast-result
 cast-result c = rw (turns c).turned (tt, record { fits = omega (arith, (turns c).top) })
 
-add-result-2 : tie.Need-overflow-add-result-2
+add-result-2 : tie.Need-overflow_add-result-then-z-lt0
 add-result-2 c = rw (turns c).turned (record { fits = omega (arith, (turns c).top) })
 
-cast-result-2 : tie.Need-overflow-cast-result-2
+cast-result-2 : tie.Need-overflow_cast-result-else-z-lt0
 cast-result-2 c =
-    let z = c.before.args.z in
-    let fits = c.before.ranges.z in
-    let u = not-below-zero z fits (not-false (non_neg z) (sym (below-zero z fits) ∙ c.if1.false)) in
+    let z = c.args.z in
+    let fits = c.ranges.z in
+    let u = not-below-zero z fits (not-false (non_neg z) (sym (below-zero z fits) ∙ c.if-z-lt0.false)) in
     (u.0, record { fits = omega (arith, u.1) })
 
-returns : tie.Need-returns
+returns : tie.Need-returns-then-z-lt0
 returns c = rw (turns c).turned (omega (arith, (turns c).some))
 
-returns-2 : tie.Need-returns-2
-returns-2 c = ap nat_abs (to_z-of_z c.before.ranges.z)
+returns-2 : tie.Need-returns-else-z-lt0
+returns-2 c = ap nat_abs (to_z-of_z c.ranges.z)
 
-pub size-spec : {M : Type 1} → statement M
-size-spec =
+pub size_spec : {M : Type 1} → statement M
+size_spec =
     tie.close
     (tie.spec add-result sub-result cast-result add-result-2 cast-result-2 returns returns-2)

@@ -4,10 +4,10 @@ use Rattle.pages.proofs.SpanTable.{factorials-table, spans-tabled}
 use Rattle.pages.proofs.soundness.budget.Statement.{statement}
 use Rattle.pages.proofs.soundness.budget.Tie as tie
 
-slice-aggregate-first : tie.Need-slice-aggregate-first
+slice-aggregate-first : tie.Need-slice_bounds-first-end
 slice-aggregate-first c = search rules
 
-slice-aggregate-first-2 : tie.Need-slice-aggregate-first-2
+slice-aggregate-first-2 : tie.Need-slice_bounds-first-end-2
 slice-aggregate-first-2 c = search rules
 
 first-requires : tie.Need-first-requires
@@ -16,6 +16,6 @@ first-requires c κs = (factorials-table, spans-tabled)
 returns : tie.Need-returns
 returns c = search rules
 
-pub budget-spec : {M : Type 1} → statement M
-budget-spec =
+pub budget_spec : {M : Type 1} → statement M
+budget_spec =
     tie.close (tie.spec slice-aggregate-first slice-aggregate-first-2 first-requires returns)

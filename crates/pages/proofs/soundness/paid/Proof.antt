@@ -10,10 +10,10 @@ use Rattle.pages.proofs.soundness.paid.Statement.{statement}
 use Rattle.pages.proofs.soundness.paid.Tie as tie
 
 -- where the function began
-abbrev start : tie.Else1 → tie.Start
+abbrev start : tie.Else-degree-eq0 → tie.Start
 start c = c.before.before.before
 
-cost-is : (c : tie.Else1)
+cost-is : (c : tie.Else-degree-eq0)
     → let a = (start c).args in get_or a.factorials.now a.degree 0 ≡ 1 * factorial a.degree
 cost-is c =
     let p = (start c).requires in
@@ -22,53 +22,53 @@ cost-is c =
 overspent-requires : tie.Need-overspent-requires
 overspent-requires c κs = search rules
 
-returns : tie.Need-returns
-returns c = c.overspent.ensures ∙ no_line 1 _ _ c.before.if1.true
+returns : tie.Need-returns-then-degree-eq0
+returns c = c.overspent.ensures ∙ no_line 1 _ _ c.if-degree-eq0.true
 
-mul-value : tie.Need-overflow-mul-value
+mul-value : tie.Need-offset_bounds-factorials-degree
 mul-value c = search rules
 
-shared-slice-read-value : tie.Need-shared-slice-read-value
+shared-slice-read-value : tie.Need-bounds-factorials-degree
 shared-slice-read-value c = search rules
 
-overspent-requires-2 : tie.Need-overspent-requires-2
+overspent-requires-2 : tie.Need-overspent-requires-then-budget-value
 overspent-requires-2 c κs = search rules
 
-returns-2 : tie.Need-returns-2
+returns-2 : tie.Need-returns-then-budget-value
 returns-2 c =
-    let else1 = c.before.before.before.before in
-    c.overspent2.ensures
-    ∙ too-dear 1 _ (start else1).args.budget else1.if1.false _ (cost-is else1) c.before.if2.true
+    let else1 = c in
+    c.overspent-then-budget-value.ensures
+    ∙ too-dear 1 _ (start else1.before.before.before.before).args.budget else1.if-degree-eq0.false _ (cost-is else1.before.before.before.before) c.if-budget-value.true
 
-mul-span : tie.Need-overflow-mul-span
+mul-span : tie.Need-offset_bounds-spans-degree
 mul-span c = search rules
 
-shared-slice-read-span : tie.Need-shared-slice-read-span
+shared-slice-read-span : tie.Need-bounds-spans-degree
 shared-slice-read-span c = search rules
 
-overspent-requires-3 : tie.Need-overspent-requires-3
+overspent-requires-3 : tie.Need-overspent-requires-then-budget-span
 overspent-requires-3 c κs = search rules
 
-returns-3 : tie.Need-returns-3
+returns-3 : tie.Need-returns-then-budget-span
 returns-3 c =
-    let else2 = c.before.before.before.before in
-    let else1 = else2.before.before.before in
-    let p = (start else1).requires in
-    c.overspent3.ensures
-    ∙ too_long 1 _ (start else1).args.budget else1.if1.false _ (cost-is else1) else2.if2.false _
-    (tabled-is p.1 _ p.2) c.before.if3.true
+    let else2 = c in
+    let else1 = else2 in
+    let p = (start else1.before.before.before.before.before.before.before).requires in
+    c.overspent-then-budget-span.ensures
+    ∙ too_long 1 _ (start else1.before.before.before.before.before.before.before).args.budget else1.if-degree-eq0.false _ (cost-is else1.before.before.before.before.before.before.before) else2.if-budget-value.false _
+    (tabled-is p.1 _ p.2) c.if-budget-span.true
 
-returns-4 : tie.Need-returns-4
+returns-4 : tie.Need-returns
 returns-4 c =
-    let else3 = c.before.before in
-    let else2 = else3.before.before.before in
-    let else1 = else2.before.before.before in
-    let p = (start else1).requires in
-    all_paid 1 _ (start else1).args.budget else1.if1.false _ (cost-is else1) else2.if2.false _
-    (tabled-is p.1 _ p.2) else3.if3.false
+    let else3 = c in
+    let else2 = else3 in
+    let else1 = else2 in
+    let p = (start else1.before.before.before.before.before.before.before.before).requires in
+    all_paid 1 _ (start else1.before.before.before.before.before.before.before.before).args.budget else1.if-degree-eq0.false _ (cost-is else1.before.before.before.before.before.before.before.before) else2.if-budget-value.false _
+    (tabled-is p.1 _ p.2) else3.if-budget-span.false
 
-pub paid-spec : {M : Type 1} → statement M
-paid-spec =
+pub paid_spec : {M : Type 1} → statement M
+paid_spec =
     tie.close
     (tie.spec
     overspent-requires

@@ -4,23 +4,23 @@ use Rattle.pages.proofs.SoundPages.{long-page, sound-page, unsound-page}
 use Rattle.pages.proofs.soundness.refusal.Statement.{statement}
 use Rattle.pages.proofs.soundness.refusal.Tie as tie
 
-returns : tie.Need-returns
+returns : tie.Need-returns-then-page-gt-PAGE_LIMIT
 returns c =
-    let a = c.before.before.args in
-    long-page _ a.slip a.page.now c.if1.true
+    let a = c.args in
+    long-page _ a.slip a.page.now c.if-page-gt-PAGE_LIMIT.true
 
 sound-requires : tie.Need-sound-requires
 sound-requires c κs = search rules
 
-returns-2 : tie.Need-returns-2
+returns-2 : tie.Need-returns-then-sound
 returns-2 c =
-    let a = c.before.before.before.before.args in
-    sound-page _ a.slip a.page.now c.before.before.if1.false _ c.before.sound.ensures c.if2.true
+    let a = c.args in
+    sound-page _ a.slip a.page.now c.if-page-gt-PAGE_LIMIT.false _ c.sound.ensures c.if-sound.true
 
-returns-3 : tie.Need-returns-3
+returns-3 : tie.Need-returns
 returns-3 c =
-    let a = c.before.before.before.before.args in
-    unsound-page _ a.slip a.page.now c.before.before.if1.false _ c.before.sound.ensures c.if2.false
+    let a = c.args in
+    unsound-page _ a.slip a.page.now c.if-page-gt-PAGE_LIMIT.false _ c.sound.ensures c.if-sound.false
 
-pub refusal-spec : {M : Type 1} → statement M
-refusal-spec = tie.close (tie.spec returns sound-requires returns-2 returns-3)
+pub refusal_spec : {M : Type 1} → statement M
+refusal_spec = tie.close (tie.spec returns sound-requires returns-2 returns-3)

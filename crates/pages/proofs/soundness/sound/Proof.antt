@@ -13,83 +13,83 @@ use Rattle.pages.proofs.soundness.sound.Statement.{statement}
 use Rattle.pages.proofs.soundness.sound.Tie as tie
 
 -- ---- places: where the lines fit, and the arguments
-abbrev fitting : tie.After-spent → tie.Else2
-fitting c = c.before.before.before.before.before.before.before
+abbrev fitting : tie.After-spent-after → tie.Else-page-lines
+fitting c = c.before.before.before.before.before.before
 
-abbrev begin : tie.Else2 → tie.Start
+abbrev begin : tie.Else-page-lines → tie.Start
 begin c = c.before.before.before.before
 
-says : (c : tie.Else2) → (begin c).args.slip.mode ≡ 0
-says c = c.before.if1.false
+says : (c : tie.Else-page-lines) → (begin c).args.slip.mode ≡ 0
+says c = c.if-slip-ne-PLAIN.false
 
-enough : (c : tie.After-spent)
+enough : (c : tie.After-spent-after)
     → let a = (begin (fitting c)).args in
-    c.spent.result.enough ≡ (spent_all degree_limit (budget_of degree_limit a.slip) (waiting a.slip a.page.now)
+    c.spent-after.result.enough ≡ (spent_all degree_limit (budget_of degree_limit a.slip) (waiting a.slip a.page.now)
     ).enough
 enough c =
     let a = (begin (fitting c)).args in
     ap (λ (b : Budget). b.enough)
-    (c.spent.ensures
+    (c.spent-after.ensures
     ∙ ap (λ (b : Budget). spent_all degree_limit b (waiting a.slip a.page.now))
-    c.before.before.before.before.first.ensures)
+    c.first-before.ensures)
 
-returns : tie.Need-returns
-returns c = other-mode plain_mode _ _ _ c.if1.true
+returns : tie.Need-returns-then-slip-ne-PLAIN
+returns c = other-mode plain_mode _ _ _ c.if-slip-ne-PLAIN.true
 
-returns-2 : tie.Need-returns-2
-returns-2 c = lines_long plain_mode _ _ _ c.if2.true
+returns-2 : tie.Need-returns-then-page-lines
+returns-2 c = lines_long plain_mode _ _ _ c.if-page-lines.true
 
-slice-aggregate-first : tie.Need-slice-aggregate-first
+slice-aggregate-first : tie.Need-slice_bounds-first-end
 slice-aggregate-first c = search rules
 
-slice-aggregate-first-2 : tie.Need-slice-aggregate-first-2
+slice-aggregate-first-2 : tie.Need-slice_bounds-first-end-2
 slice-aggregate-first-2 c = search rules
 
-first-requires : tie.Need-first-requires
+first-requires : tie.Need-first-before-requires
 first-requires c κs = (factorials-table, spans-tabled)
 
-slice-aggregate-spent : tie.Need-slice-aggregate-spent
-slice-aggregate-spent c = sym (length-take-le _ _ c.before.before.before.before.if2.false)
+slice-aggregate-spent : tie.Need-slice_bounds-spent-end
+slice-aggregate-spent c = sym (length-take-le _ _ c.if-page-lines.false)
 
-slice-aggregate-spent-2 : tie.Need-slice-aggregate-spent-2
+slice-aggregate-spent-2 : tie.Need-slice_bounds-spent-end-2
 slice-aggregate-spent-2 c = search rules
 
-slice-aggregate-spent-3 : tie.Need-slice-aggregate-spent-3
+slice-aggregate-spent-3 : tie.Need-slice_bounds-spent-end-3
 slice-aggregate-spent-3 c = search rules
 
-spent-requires : tie.Need-spent-requires
+spent-requires : tie.Need-spent-after-requires
 spent-requires c κs = (factorials-table, spans-tabled)
 
-mul_words : tie.Need-overflow-mul-words
+mul_words : tie.Need-offset_bounds-page-lines
 mul_words c = search rules
 
-sub_words : tie.Need-overflow-sub-words
+sub_words : tie.Need-slice_bounds-words-count
 sub_words c = search rules
 
-part-words-start : tie.Need-slice-bounds-words-start
+part-words-start : tie.Need-slice_bounds-words-start
 part-words-start c = search rules
 
-part-words-end : tie.Need-slice-bounds-words-end
+part-words-end : tie.Need-slice_bounds-words-end
 part-words-end c = search rules
 
 words-requires : tie.Need-words-requires
 words-requires c κs = search rules
 
-returns-3 : tie.Need-returns-3
+returns-3 : tie.Need-returns-then-after
 returns-3 c =
-    let then3 = c.before.before in
-    let f = fitting then3.before in
+    let then3 = c in
+    let f = fitting then3.before.before.before in
     let a = (begin f).args in
     c.words.ensures ∙ ap (every (◌=? 0)) (all_from a.page.now a.slip.lines)
-    ∙ then-zeros _ a.slip _ (says f) f.if2.left _ (enough then3.before) then3.if3.true
+    ∙ then-zeros _ a.slip _ (says f) f.if-page-lines.false _ (enough then3.before.before.before) then3.if-after.true
 
-returns-4 : tie.Need-returns-4
+returns-4 : tie.Need-returns
 returns-4 c =
     let f = fitting c.before in
-    lines-dear _ (begin f).args.slip _ (says f) f.if2.left _ (enough c.before) c.if3.false
+    lines-dear _ (begin f).args.slip _ (says f) f.if-page-lines.false _ (enough c.before) c.if-after.false
 
-pub sound-spec : {M : Type 1} → statement M
-sound-spec =
+pub sound_spec : {M : Type 1} → statement M
+sound_spec =
     tie.close
     (tie.spec
     returns

@@ -4,10 +4,10 @@ use Rattle.pages.proofs.SpanTable.{factorials-table, spans-tabled}
 use Rattle.pages.proofs.soundness.spend.Statement.{statement}
 use Rattle.pages.proofs.soundness.spend.Tie as tie
 
-slice-aggregate-spent : tie.Need-slice-aggregate-spent
+slice-aggregate-spent : tie.Need-slice_bounds-spent-end
 slice-aggregate-spent c = search rules
 
-slice-aggregate-spent-2 : tie.Need-slice-aggregate-spent-2
+slice-aggregate-spent-2 : tie.Need-slice_bounds-spent-end-2
 slice-aggregate-spent-2 c = search rules
 
 spent-requires : tie.Need-spent-requires

@@ -4,34 +4,34 @@ use Rattle.pages.proofs.WordDegrees.{nothing_known}
 use Rattle.pages.proofs.soundness.spent.Statement.{statement}
 use Rattle.pages.proofs.soundness.spent.Tie as tie
 
-slice-aggregate-spent-with : tie.Need-slice-aggregate-spent-with
+slice-aggregate-spent-with : tie.Need-slice_bounds-spent_with-end
 slice-aggregate-spent-with c = search rules
 
-slice-aggregate-spent-with-2 : tie.Need-slice-aggregate-spent-with-2
+slice-aggregate-spent-with-2 : tie.Need-slice_bounds-spent_with-end-then-lines-lt-MANY
 slice-aggregate-spent-with-2 c = search rules
 
-spent-with-requires : tie.Need-spent-with-requires
+spent-with-requires : tie.Need-spent_with-requires
 spent-with-requires c κs = search rules
 
-returns : tie.Need-returns
+returns : tie.Need-returns-then-lines-lt-MANY
 returns c = search rules
 
-slice-aggregate-spent-with-3 : tie.Need-slice-aggregate-spent-with-3
+slice-aggregate-spent-with-3 : tie.Need-slice_bounds-spent_with-end-2
 slice-aggregate-spent-with-3 c = search rules
 
-slice-aggregate-spent-with-4 : tie.Need-slice-aggregate-spent-with-4
+slice-aggregate-spent-with-4 : tie.Need-slice_bounds-spent_with-end-3
 slice-aggregate-spent-with-4 c = search rules
 
-spent-with-requires-2 : tie.Need-spent-with-requires-2
+spent-with-requires-2 : tie.Need-spent_with-requires-2
 spent-with-requires-2 c κs =
-    let tables = c.before.before.before.before.before.before.requires in
+    let tables = c.requires in
     (tables.0, tables.1, nothing_known 229)
 
-returns-2 : tie.Need-returns-2
+returns-2 : tie.Need-returns
 returns-2 c = search rules
 
-pub spent-spec : {M : Type 1} → statement M
-spent-spec =
+pub spent_spec : {M : Type 1} → statement M
+spent_spec =
     tie.close
     (tie.spec
     slice-aggregate-spent-with

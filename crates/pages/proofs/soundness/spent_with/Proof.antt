@@ -12,107 +12,107 @@ use Rattle.pages.proofs.Budgets.{sound-small, most-small, paid-stays, spent-next
 use Rattle.pages.proofs.soundness.spent_with.Statement.{statement}
 use Rattle.pages.proofs.soundness.spent_with.Tie as tie
 
-abbrev invariant-loop : tie.invariant-loop
-invariant-loop lines factorials spans shapes₀ classes₀ left₀ i₀ shapes classes left i =
+abbrev invariant-loop-i : tie.invariant-loop-i
+invariant-loop-i lines factorials spans shapes₀ classes₀ left₀ i₀ shapes classes left i =
     (i ≤ length lines)
     × (spent_all degree_limit left (map line_of (drop i lines)) ≡ spent_all degree_limit left₀ (map line_of lines))
     × Knows shapes classes × (length shapes ≡ length shapes₀) × (length classes ≡ length classes₀)
 
-abbrev decreases-loop : tie.decreases-loop
-decreases-loop lines factorials spans shapes₀ classes₀ left₀ i₀ shapes classes left i = length lines - i
+abbrev decreases-loop-i : tie.decreases-loop-i
+decreases-loop-i lines factorials spans shapes₀ classes₀ left₀ i₀ shapes classes left i = length lines - i
 
 -- ---- places: where the function began, where the loop is seen from the degree of its line, and this from what is left
-abbrev start : tie.At-loop invariant-loop decreases-loop → tie.Start invariant-loop decreases-loop
+abbrev start : tie.At-loop-i invariant-loop-i decreases-loop-i → tie.Start invariant-loop-i decreases-loop-i
 start c = c.before.before.before.before.before.before
 
-abbrev within : tie.After-degree invariant-loop decreases-loop → tie.In-loop invariant-loop decreases-loop
+abbrev within : tie.After-degree-degree invariant-loop-i decreases-loop-i → tie.In-loop-i invariant-loop-i decreases-loop-i
 within c = c.before.before.before.before.before
 
-abbrev at : tie.After-degree invariant-loop decreases-loop → tie.At-loop invariant-loop decreases-loop
+abbrev at : tie.After-degree-degree invariant-loop-i decreases-loop-i → tie.At-loop-i invariant-loop-i decreases-loop-i
 at c = (within c).before
 
-abbrev found : tie.After-paid invariant-loop decreases-loop → tie.After-degree invariant-loop decreases-loop
+abbrev found : tie.After-paid-left invariant-loop-i decreases-loop-i → tie.After-degree-degree invariant-loop-i decreases-loop-i
 found c = c.before.before.before.before.before
 
 -- ---- what is known there
-degree-is : (c : tie.After-degree invariant-loop decreases-loop)
+degree-is : (c : tie.After-degree-degree invariant-loop-i decreases-loop-i)
     → let l = at c in
-    c.degree.result
-    ≡ sound_degree (most_degree degree_limit l.loop.left) (line_of (get_or (start l).args.lines.now l.loop.i 0))
+    c.degree-degree.result
+    ≡ sound_degree (most_degree degree_limit l.loop-i.left) (line_of (get_or (start l).args.lines.now l.loop-i.i 0))
 degree-is c =
     let l = at c in
-    c.degree.ensures.0
-    ∙ ap (λ n. sound_degree n (line_of (get_or (start l).args.lines.now l.loop.i 0)))
-    c.before.before.before.most-degree.ensures
+    c.degree-degree.ensures.0
+    ∙ ap (λ n. sound_degree n (line_of (get_or (start l).args.lines.now l.loop-i.i 0)))
+    c.most_degree.ensures
 
-next : (c : tie.After-paid invariant-loop decreases-loop)
+next : (c : tie.After-paid-left invariant-loop-i decreases-loop-i)
     → let l = at (found c) in
     let a = (start l).args in
-    spent_all degree_limit c.paid.result (map line_of (drop (l.loop.i + 1) a.lines.now))
+    spent_all degree_limit c.paid-left.result (map line_of (drop (l.loop-i.i + 1) a.lines.now))
     ≡ spent_all degree_limit a.budget (map line_of a.lines.now)
 next c =
     let d = found c in
-    let l = (at d).loop in
-    spent-next _ l.left _ _ l.i _ (within d).loop-test.taken (degree-is d) c.paid.ensures ∙ l.inv.1
+    let l = (at d).loop-i in
+    spent-next _ l.left _ _ l.i _ (within d).loop-i-test.true (degree-is d) c.paid-left.ensures ∙ l.invariant.1
 
 -- ---- the loop
-loop-holds : tie.Need-loop-init invariant-loop decreases-loop
-loop-holds c = (omega arith, refl, c.before.before.before.before.before.requires.2, refl, refl)
+loop-holds : tie.Need-loop-i-init invariant-loop-i decreases-loop-i
+loop-holds c = (omega arith, refl, c.requires.2, refl, refl)
 
-mul-degree : tie.Need-overflow-mul-degree invariant-loop decreases-loop
+mul-degree : tie.Need-offset_bounds-lines-i invariant-loop-i decreases-loop-i
 mul-degree c = search rules
 
-shared-slice-read-degree : tie.Need-shared-slice-read-degree invariant-loop decreases-loop
+shared-slice-read-degree : tie.Need-bounds-lines-i invariant-loop-i decreases-loop-i
 shared-slice-read-degree c = search rules
 
-most-degree-requires : tie.Need-most-degree-requires invariant-loop decreases-loop
+most-degree-requires : tie.Need-most_degree-requires invariant-loop-i decreases-loop-i
 most-degree-requires c κs = search rules
 
-degree-requires : tie.Need-degree-requires invariant-loop decreases-loop
+degree-requires : tie.Need-degree-degree-requires invariant-loop-i decreases-loop-i
 degree-requires c κs =
-    let m = c.before.before in
-    let l = m.before.before.before in
-    (omega (arith, most-small degree_limit l.loop.left, m.most-degree.ensures), l.loop.invariant.2)
+    let m = c in
+    let l = m in
+    (omega (arith, most-small degree_limit l.loop-i.left, m.most_degree.ensures), l.loop-i.invariant.2)
 
-paid-requires : tie.Need-paid-requires invariant-loop decreases-loop
+paid-requires : tie.Need-paid-left-requires invariant-loop-i decreases-loop-i
 paid-requires c κs =
-    let d = c.before.before.before.before in
-    let p = (start (at d)).pre in
-    (p.0, p.1, omega (arith, sound-small _ _ _ (degree-is d), most-small degree_limit (at d).loop.left))
+    let d = c in
+    let p = (start (at d.before.before.before.before)).requires in
+    (p.0, p.1, omega (arith, sound-small _ _ _ (degree-is d.before.before.before.before), most-small degree_limit (at d.before.before.before.before).loop-i.left))
 
-add-i : tie.Need-overflow-add-i invariant-loop decreases-loop
+add-i : tie.Need-overflow_add-i invariant-loop-i decreases-loop-i
 add-i c = search rules
 
-loop-less : tie.Need-loop-smaller invariant-loop decreases-loop
+loop-less : tie.Need-loop-i-smaller invariant-loop-i decreases-loop-i
 loop-less c = search rules
 
-loop-again : tie.Need-loop-preserved invariant-loop decreases-loop
-loop-again c = (omega arith, next c.before, (found c.before).degree.ensures.1, search rules, search rules)
+loop-again : tie.Need-loop-i-preserved invariant-loop-i decreases-loop-i
+loop-again c = (omega arith, next c.before, (found c.before).degree-degree.ensures.1, search rules, search rules)
 
-same_length : tie.Need-same-length invariant-loop decreases-loop
+same_length : tie.Need-shape_of-shapes-else-left invariant-loop-i decreases-loop-i
 same_length c = search rules
 
-same-length-2 : tie.Need-same-length-2 invariant-loop decreases-loop
+same-length-2 : tie.Need-shape_of-classes-else-left invariant-loop-i decreases-loop-i
 same-length-2 c = search rules
 
-returns : tie.Need-returns invariant-loop decreases-loop
-returns c = paid-stays _ 1 _ _ _ _ c.before.paid.ensures c.if1.false ∙ next c.before
+returns : tie.Need-returns-else-left invariant-loop-i decreases-loop-i
+returns c = paid-stays _ 1 _ _ _ _ c.paid-left.ensures c.if-left.false ∙ next c.before
 
-same-length-3 : tie.Need-same-length-3 invariant-loop decreases-loop
+same-length-3 : tie.Need-shape_of-shapes invariant-loop-i decreases-loop-i
 same-length-3 c = search rules
 
-same-length-4 : tie.Need-same-length-4 invariant-loop decreases-loop
+same-length-4 : tie.Need-shape_of-classes invariant-loop-i decreases-loop-i
 same-length-4 c = search rules
 
-returns-2 : tie.Need-returns-2 invariant-loop decreases-loop
-returns-2 c = spent-end _ _ _ _ c.loop-test.false ∙ c.before.loop.invariant.1
+returns-2 : tie.Need-returns invariant-loop-i decreases-loop-i
+returns-2 c = spent-end _ _ _ _ c.loop-i-test.false ∙ c.loop-i.invariant.1
 
-pub spent-with-spec : {M : Type 1} → statement M
-spent-with-spec =
+pub spent_with_spec : {M : Type 1} → statement M
+spent_with_spec =
     tie.close
     (tie.spec
-    invariant-loop
-    decreases-loop
+    invariant-loop-i
+    decreases-loop-i
     loop-holds
     mul-degree
     shared-slice-read-degree

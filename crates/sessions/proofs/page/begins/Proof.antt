@@ -6,59 +6,59 @@ use Rattle.sessions.proofs.Pages.{begins, ends-before, differs, agrees, all-agre
 use Rattle.sessions.proofs.page.begins.Statement.{statement}
 use Rattle.sessions.proofs.page.begins.Tie as tie
 
-abbrev invariant-loop : tie.invariant-loop
-invariant-loop strip words i₀ i = begins (drop i words) (drop i strip) ≡ begins words strip
+abbrev invariant-loop-i : tie.invariant-loop-i
+invariant-loop-i strip words i₀ i = begins (drop i words) (drop i strip) ≡ begins words strip
 
-abbrev decreases-loop : tie.decreases-loop
-decreases-loop strip words i₀ i = length words - i
+abbrev decreases-loop-i : tie.decreases-loop-i
+decreases-loop-i strip words i₀ i = length words - i
 
-loop-holds : tie.Need-loop-init invariant-loop decreases-loop
+loop-holds : tie.Need-loop-i-init invariant-loop-i decreases-loop-i
 loop-holds c = refl
 
-returns : tie.Need-returns invariant-loop decreases-loop
+returns : tie.Need-returns-then-strip-i invariant-loop-i decreases-loop-i
 returns c =
-    let at = c.before.before in
-    sym (sym at.loop.invariant ∙ ends-before _ _ _ c.before.loop-test.true c.if1.true)
+    let at = c in
+    sym (sym at.loop-i.invariant ∙ ends-before _ _ _ c.loop-i-test.true c.if-strip-i.true)
 
-mul-if2 : tie.Need-overflow-mul-if2 invariant-loop decreases-loop
+mul-if2 : tie.Need-offset_bounds-strip-i invariant-loop-i decreases-loop-i
 mul-if2 c = search rules
 
-shared-slice-read-if2 : tie.Need-shared-slice-read-if2 invariant-loop decreases-loop
+shared-slice-read-if2 : tie.Need-bounds-strip-i invariant-loop-i decreases-loop-i
 shared-slice-read-if2 c = search rules
 
-mul-if2-2 : tie.Need-overflow-mul-if2-2 invariant-loop decreases-loop
+mul-if2-2 : tie.Need-offset_bounds-words-i invariant-loop-i decreases-loop-i
 mul-if2-2 c = search rules
 
-shared-slice-read-if2-2 : tie.Need-shared-slice-read-if2-2 invariant-loop decreases-loop
+shared-slice-read-if2-2 : tie.Need-bounds-words-i invariant-loop-i decreases-loop-i
 shared-slice-read-if2-2 c = search rules
 
-returns-2 : tie.Need-returns-2 invariant-loop decreases-loop
+returns-2 : tie.Need-returns-then-strip-i-2 invariant-loop-i decreases-loop-i
 returns-2 c =
-    let else1 = c.before.before.before in
-    let inside = else1.before in
-    sym (sym inside.before.loop.invariant ∙ differs _ _ _ inside.loop-test.true else1.if1.false c.if2.true)
+    let else1 = c in
+    let inside = else1 in
+    sym (sym inside.loop-i.invariant ∙ differs _ _ _ inside.loop-i-test.true else1.if-strip-i.false c.if-strip-i-2.true)
 
-add-i : tie.Need-overflow-add-i invariant-loop decreases-loop
+add-i : tie.Need-overflow_add-i invariant-loop-i decreases-loop-i
 add-i c = search rules
 
-loop-less : tie.Need-loop-smaller invariant-loop decreases-loop
+loop-less : tie.Need-loop-i-smaller invariant-loop-i decreases-loop-i
 loop-less c = search rules
 
-loop-again : tie.Need-loop-preserved invariant-loop decreases-loop
+loop-again : tie.Need-loop-i-preserved invariant-loop-i decreases-loop-i
 loop-again c =
-    let else1 = c.before.before.before in
-    let inside = else1.before in
-    agrees _ _ _ inside.loop-test.true else1.if1.false c.if2.false ∙ inside.before.loop.invariant
+    let else1 = c in
+    let inside = else1 in
+    agrees _ _ _ inside.loop-i-test.true else1.if-strip-i.false c.if-strip-i-2.false ∙ inside.loop-i.invariant
 
-returns-3 : tie.Need-returns-3 invariant-loop decreases-loop
-returns-3 c = sym (sym c.before.loop.invariant ∙ all-agree _ _ _ c.loop-test.false)
+returns-3 : tie.Need-returns invariant-loop-i decreases-loop-i
+returns-3 c = sym (sym c.loop-i.invariant ∙ all-agree _ _ _ c.loop-i-test.false)
 
-pub begins-spec : {M : Type 1} → statement M
-begins-spec =
+pub begins_spec : {M : Type 1} → statement M
+begins_spec =
     tie.close
     (tie.spec
-    invariant-loop
-    decreases-loop
+    invariant-loop-i
+    decreases-loop-i
     loop-holds
     returns
     mul-if2

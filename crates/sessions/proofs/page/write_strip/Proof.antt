@@ -12,54 +12,54 @@ use Rattle.sessions.proofs.Pages.{put_word, put_last}
 use Rattle.sessions.proofs.page.write_strip.Statement.{statement}
 use Rattle.sessions.proofs.page.write_strip.Tie as tie
 
-abbrev invariant-loop : tie.invariant-loop
-invariant-loop page₀ at strip i₀ page i =
+abbrev invariant-loop-i : tie.invariant-loop-i
+invariant-loop-i page₀ at strip i₀ page i =
     (i ≤ length strip) × (sets page (at + i) (drop i strip) ≡ sets page₀ at strip) × (length page ≡ length page₀)
 
-abbrev decreases-loop : tie.decreases-loop
-decreases-loop page₀ at strip i₀ page i = length strip - i
+abbrev decreases-loop-i : tie.decreases-loop-i
+decreases-loop-i page₀ at strip i₀ page i = length strip - i
 
-loop-holds : tie.Need-loop-init invariant-loop decreases-loop
+loop-holds : tie.Need-loop-i-init invariant-loop-i decreases-loop-i
 loop-holds c = (omega arith, rw add-zero, refl)
 
-mul-page : tie.Need-overflow-mul-page invariant-loop decreases-loop
+mul-page : tie.Need-offset_bounds-strip-i invariant-loop-i decreases-loop-i
 mul-page c = search rules
 
-shared-slice-read-page : tie.Need-shared-slice-read-page invariant-loop decreases-loop
+shared-slice-read-page : tie.Need-bounds-strip-i invariant-loop-i decreases-loop-i
 shared-slice-read-page c = search rules
 
-add-page : tie.Need-overflow-add-page invariant-loop decreases-loop
+add-page : tie.Need-overflow_add-page invariant-loop-i decreases-loop-i
 add-page c = search rules
 
-mul-page-2 : tie.Need-overflow-mul-page-2 invariant-loop decreases-loop
+mul-page-2 : tie.Need-offset_bounds-page-at invariant-loop-i decreases-loop-i
 mul-page-2 c = search rules
 
-slice-write-page : tie.Need-slice-write-page invariant-loop decreases-loop
+slice-write-page : tie.Need-bounds-page-at invariant-loop-i decreases-loop-i
 slice-write-page c = search rules
 
-add-i : tie.Need-overflow-add-i invariant-loop decreases-loop
+add-i : tie.Need-overflow_add-i invariant-loop-i decreases-loop-i
 add-i c = search rules
 
-loop-less : tie.Need-loop-smaller invariant-loop decreases-loop
+loop-less : tie.Need-loop-i-smaller invariant-loop-i decreases-loop-i
 loop-less c = omega arith
 
-loop-again : tie.Need-loop-preserved invariant-loop decreases-loop
+loop-again : tie.Need-loop-i-preserved invariant-loop-i decreases-loop-i
 loop-again c =
-    let l = c.before.before.loop in
-    (omega arith, put_word _ _ _ _ c.before.loop-test.true ∙ l.invariant.1, simp length-set l.invariant.2)
+    let l = c.loop-i in
+    (omega arith, put_word _ _ _ _ c.loop-i-test.true ∙ l.invariant.1, simp length-set l.invariant.2)
 
-same_length : tie.Need-same-length invariant-loop decreases-loop
+same_length : tie.Need-shape_of-page invariant-loop-i decreases-loop-i
 same_length c = search rules
 
-returns : tie.Need-returns invariant-loop decreases-loop
-returns c = put_last _ _ _ _ c.loop-test.false ∙ c.before.loop.invariant.1
+returns : tie.Need-returns invariant-loop-i decreases-loop-i
+returns c = put_last _ _ _ _ c.loop-i-test.false ∙ c.loop-i.invariant.1
 
-pub write-strip-spec : {M : Type 1} → statement M
-write-strip-spec =
+pub write_strip_spec : {M : Type 1} → statement M
+write_strip_spec =
     tie.close
     (tie.spec
-    invariant-loop
-    decreases-loop
+    invariant-loop-i
+    decreases-loop-i
     loop-holds
     mul-page
     shared-slice-read-page

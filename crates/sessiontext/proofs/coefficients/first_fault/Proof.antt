@@ -9,74 +9,74 @@ use borrow.Author.Rules.{rules}
 use Rattle.sessiontext.proofs.coefficients.first_fault.Statement.{statement}
 use Rattle.sessiontext.proofs.coefficients.first_fault.Tie as tie
 
-abbrev invariant-loop : tie.invariant-loop
-invariant-loop text start at₀ count₀ at count = Faultless text start at count
+abbrev invariant-loop-at : tie.invariant-loop-at
+invariant-loop-at text start at₀ count₀ at count = Faultless text start at count
 
-abbrev decreases-loop : tie.decreases-loop
-decreases-loop text start at₀ count₀ at count = length text - at
+abbrev decreases-loop-at : tie.decreases-loop-at
+decreases-loop-at text start at₀ count₀ at count = length text - at
 
-ends : (c : tie.After-line-end invariant-loop decreases-loop)
-    → Next c.before.before.before.before.args.text.now c.before.before.loop.at c.line-end.result
-ends c = next _ _ _ c.line-end.ensures
+ends : (c : tie.After-line_end-end invariant-loop-at decreases-loop-at)
+    → Next c.args.text.now c.loop-at.at c.line_end-end.result
+ends c = next _ _ _ c.line_end-end.ensures
 
-loop-holds : tie.Need-loop-init invariant-loop decreases-loop
-loop-holds c = faultless-none _ _ c.before.requires.0 c.before.requires.1
+loop-holds : tie.Need-loop-at-init invariant-loop-at decreases-loop-at
+loop-holds c = faultless-none _ _ c.requires.0 c.requires.1
 
-line-end-requires : tie.Need-line-end-requires invariant-loop decreases-loop
+line-end-requires : tie.Need-line_end-end-requires invariant-loop-at decreases-loop-at
 line-end-requires c κs = search rules
 
-sub-waiting-line : tie.Need-overflow-sub-waiting-line invariant-loop decreases-loop
+sub-waiting-line : tie.Need-slice_bounds-waiting_line-count invariant-loop-at decreases-loop-at
 sub-waiting-line c = (ends c).from
 
-part-waiting-line-start : tie.Need-slice-bounds-waiting-line-start invariant-loop decreases-loop
+part-waiting-line-start : tie.Need-slice_bounds-waiting_line-start invariant-loop-at decreases-loop-at
 part-waiting-line-start c = (ends c).from
 
-part-waiting-line-end : tie.Need-slice-bounds-waiting-line-end invariant-loop decreases-loop
-part-waiting-line-end c = (ends c).ranges c.before.before.loop.invariant.fits
+part-waiting-line-end : tie.Need-slice_bounds-waiting_line-end invariant-loop-at decreases-loop-at
+part-waiting-line-end c = (ends c).fits c.loop-at.invariant.fits
 
-waiting-line-requires : tie.Need-waiting-line-requires invariant-loop decreases-loop
+waiting-line-requires : tie.Need-waiting_line-read-requires invariant-loop-at decreases-loop-at
 waiting-line-requires c κs = search rules
 
-add-result : tie.Need-overflow-add-result invariant-loop decreases-loop
+add-result : tie.Need-overflow_add-result invariant-loop-at decreases-loop-at
 add-result c =
-    let l = c.before.before.before.before.before in
-    record { fits = omega (arith, l.before.loop.invariant.far, l.loop-test.true) }
+    let l = c in
+    record { fits = omega (arith, l.loop-at.invariant.far, l.loop-at-test.true) }
 
-returns : tie.Need-returns invariant-loop decreases-loop
+returns : tie.Need-returns-then-not-read invariant-loop-at decreases-loop-at
 returns c =
-    let r = c.before.before in
-    let e = r.before.before in
-    let l = e.before in
-    faultless-fault _ _ l.before.loop.invariant l.loop-test.true e.line-end.ensures r.waiting-line.ensures
-    (not-true _ c.if1.true)
+    let r = c in
+    let e = r in
+    let l = e in
+    faultless-fault _ _ l.loop-at.invariant l.loop-at-test.true e.line_end-end.ensures r.waiting_line-read.ensures
+    (not-true _ c.if-not-read.true)
 
-add-count : tie.Need-overflow-add-count invariant-loop decreases-loop
+add-count : tie.Need-overflow_add-count invariant-loop-at decreases-loop-at
 add-count c =
-    let l = c.before.before.before.before.before in
-    record { fits = omega (arith, l.before.loop.invariant.far, l.loop-test.true) }
+    let l = c in
+    record { fits = omega (arith, l.loop-at.invariant.far, l.loop-at-test.true) }
 
-loop-less : tie.Need-loop-smaller invariant-loop decreases-loop
+loop-less : tie.Need-loop-at-smaller invariant-loop-at decreases-loop-at
 loop-less c =
-    let e = c.before.before.before.before in
-    omega (arith, (ends e).later e.before.loop-test.true, (ends e).ranges e.before.before.loop.invariant.fits)
+    let e = c in
+    omega (arith, (ends e.before.before.before.before).later e.loop-at-test.true, (ends e.before.before.before.before).fits e.loop-at.invariant.fits)
 
-loop-again : tie.Need-loop-preserved invariant-loop decreases-loop
+loop-again : tie.Need-loop-at-preserved invariant-loop-at decreases-loop-at
 loop-again c =
-    let r = c.before.before in
-    let e = r.before.before in
-    let l = e.before in
-    faultless-next _ _ l.before.loop.invariant l.loop-test.true e.line-end.ensures r.waiting-line.ensures
-    (not-false _ c.if1.false)
+    let r = c in
+    let e = r in
+    let l = e in
+    faultless-next _ _ l.loop-at.invariant l.loop-at-test.true e.line_end-end.ensures r.waiting_line-read.ensures
+    (not-false _ c.if-not-read.false)
 
-returns-2 : tie.Need-returns-2 invariant-loop decreases-loop
-returns-2 c = faultless-all _ _ c.before.loop.invariant c.loop-test.false
+returns-2 : tie.Need-returns invariant-loop-at decreases-loop-at
+returns-2 c = faultless-all _ _ c.loop-at.invariant c.loop-at-test.false
 
-pub first-fault-spec : {M : Type 1} → statement M
-first-fault-spec =
+pub first_fault_spec : {M : Type 1} → statement M
+first_fault_spec =
     tie.close
     (tie.spec
-    invariant-loop
-    decreases-loop
+    invariant-loop-at
+    decreases-loop-at
     loop-holds
     line-end-requires
     sub-waiting-line

@@ -9,24 +9,24 @@ use borrow.Author.Rules.{rules}
 use Rattle.sessiontext.proofs.coefficients.line_in.Statement.{statement}
 use Rattle.sessiontext.proofs.coefficients.line_in.Tie as tie
 
-cut : (c : tie.After-find) → FrontCut c.before.before.before.args.line.now c.find.result
-cut c = front_cut _ c.find.ensures
+cut : (c : tie.After-find-first) → FrontCut c.args.line.now c.find-first.result
+cut c = front_cut _ c.find-first.ensures
 
 -- the coefficient as it is handed on
-handed : (c : tie.After-struct-told)
-    → let z = c.before.before.before.integer-in.result.number in to_z w64 (of_z w64 z) ≡ z
-handed c = to_z-of_z (search rules)
+handed : (c : tie.After-struct_told-1)
+    → let z = c.integer_in-weight.result.number in to_z w64 (of_z w64 z) ≡ z
+handed c = to_z-of_z {w = w64} (search rules)
 
-word-in-requires : tie.Need-word-in-requires
+word-in-requires : tie.Need-word_in-read-requires
 word-in-requires c κs = search rules
 
-find-requires : tie.Need-find-requires
+find-requires : tie.Need-find-first-requires
 find-requires c κs = search rules
 
-slice-aggregate-integer-in : tie.Need-slice-aggregate-integer-in
-slice-aggregate-integer-in c = sym (length-take-le _ _ (cut c.before).fits)
+slice-aggregate-integer-in : tie.Need-slice_bounds-integer_in-end
+slice-aggregate-integer-in c = sym (length-take-le _ _ (cut c).fits)
 
-integer-in-requires : tie.Need-integer-in-requires
+integer-in-requires : tie.Need-integer_in-weight-requires
 integer-in-requires c κs = search rules
 
 both-requires : tie.Need-both-requires
@@ -34,14 +34,14 @@ both-requires c κs = search rules
 
 returns : tie.Need-returns
 returns c =
-    let b = c.before.before in
-    let i = b.before in
-    let f = i.before.before in
+    let b = c in
+    let i = b in
+    let f = i in
     rw (handed c)
-    (line-told f.before.word_in.ensures (rw (cut f).front at i.integer-in.ensures) b.both.ensures)
+    (line-told f.word_in-read.ensures (rw (cut f.before.before.before.before).front at i.integer_in-weight.ensures) b.both.ensures)
 
-pub line-in-spec : {M : Type 1} → statement M
-line-in-spec =
+pub line_in_spec : {M : Type 1} → statement M
+line_in_spec =
     tie.close
     (tie.spec
     word-in-requires

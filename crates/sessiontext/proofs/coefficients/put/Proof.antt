@@ -11,92 +11,92 @@ use borrow.Author.Rules.{rules}
 use Rattle.sessiontext.proofs.coefficients.put.Statement.{statement}
 use Rattle.sessiontext.proofs.coefficients.put.Tie as tie
 
-abbrev invariant-loop : tie.invariant-loop
-invariant-loop text start page₀ column₀ at₀ count₀ page column at count = Down text start page₀ column₀ at count page column
+abbrev invariant-loop-at : tie.invariant-loop-at
+invariant-loop-at text start page₀ column₀ at₀ count₀ page column at count = Down text start page₀ column₀ at count page column
 
-abbrev decreases-loop : tie.decreases-loop
-decreases-loop text start page₀ column₀ at₀ count₀ page column at count = length text - at
+abbrev decreases-loop-at : tie.decreases-loop-at
+decreases-loop-at text start page₀ column₀ at₀ count₀ page column at count = length text - at
 
-ends : (c : tie.After-line-end invariant-loop decreases-loop)
-    → Next c.before.before.before.before.before.args.text.now c.before.before.loop.at
-    c.line-end.result
-ends c = next _ _ _ c.line-end.ensures
+ends : (c : tie.After-line_end-end invariant-loop-at decreases-loop-at)
+    → Next c.args.text.now c.loop-at.at
+    c.line_end-end.result
+ends c = next _ _ _ c.line_end-end.ensures
 
 -- the coefficient as it is handed on
-handed : (c : tie.After-line-in invariant-loop decreases-loop) → let z = c.line-in.result.coefficient in
+handed : (c : tie.After-line_in-read invariant-loop-at decreases-loop-at) → let z = c.line_in-read.result.coefficient in
     to_z w64 (of_z w64 z) ≡ z
-handed c = to_z-of_z (search rules)
+handed c = to_z-of_z {w = w64} (search rules)
 
-loop-holds : tie.Need-loop-init invariant-loop decreases-loop
+loop-holds : tie.Need-loop-at-init invariant-loop-at decreases-loop-at
 loop-holds c =
-    let p = c.before.before.requires in
+    let p = c.requires in
     down-none _ _ _ _ p.0 p.1.0 p.1.1.0 p.1.1.1
 
-line-end-requires : tie.Need-line-end-requires invariant-loop decreases-loop
+line-end-requires : tie.Need-line_end-end-requires invariant-loop-at decreases-loop-at
 line-end-requires c κs = search rules
 
-sub-line-in : tie.Need-overflow-sub-line-in invariant-loop decreases-loop
+sub-line-in : tie.Need-slice_bounds-line_in-count invariant-loop-at decreases-loop-at
 sub-line-in c = (ends c).from
 
-part-line-in-start : tie.Need-slice-bounds-line-in-start invariant-loop decreases-loop
+part-line-in-start : tie.Need-slice_bounds-line_in-start invariant-loop-at decreases-loop-at
 part-line-in-start c = (ends c).from
 
-part-line-in-end : tie.Need-slice-bounds-line-in-end invariant-loop decreases-loop
-part-line-in-end c = (ends c).ranges c.before.before.loop.invariant.fits
+part-line-in-end : tie.Need-slice_bounds-line_in-end invariant-loop-at decreases-loop-at
+part-line-in-end c = (ends c).fits c.loop-at.invariant.fits
 
-line-in-requires : tie.Need-line-in-requires invariant-loop decreases-loop
+line-in-requires : tie.Need-line_in-read-requires invariant-loop-at decreases-loop-at
 line-in-requires c κs = search rules
 
-mul-page : tie.Need-overflow-mul-page invariant-loop decreases-loop
+mul-page : tie.Need-offset_bounds-page-count invariant-loop-at decreases-loop-at
 mul-page c = search rules
 
-slice-write-page : tie.Need-slice-write-page invariant-loop decreases-loop
+slice-write-page : tie.Need-bounds-page-count invariant-loop-at decreases-loop-at
 slice-write-page c =
-    let e = c.before.before in
-    let l = e.before in
-    (down-room _ _ _ _ l.before.loop.invariant l.loop-test.true e.line-end.ensures c.line-in.ensures).0
+    let e = c in
+    let l = e in
+    (down-room _ _ _ _ l.loop-at.invariant l.loop-at-test.true e.line_end-end.ensures c.line_in-read.ensures).0
 
-mul-coefficient : tie.Need-overflow-mul-coefficient invariant-loop decreases-loop
+mul-coefficient : tie.Need-offset_bounds-column-count invariant-loop-at decreases-loop-at
 mul-coefficient c = search rules
 
-slice-set-from-coefficient : tie.Need-slice-set-from-coefficient invariant-loop decreases-loop
+slice-set-from-coefficient : tie.Need-bounds-column-count invariant-loop-at decreases-loop-at
 slice-set-from-coefficient c =
-    let r = c.before in
-    let e = r.before.before in
-    let l = e.before in
-    (down-room _ _ _ _ l.before.loop.invariant l.loop-test.true e.line-end.ensures r.line-in.ensures).1
+    let r = c in
+    let e = r in
+    let l = e in
+    (down-room _ _ _ _ l.loop-at.invariant l.loop-at-test.true e.line_end-end.ensures r.line_in-read.ensures).1
 
-add-count : tie.Need-overflow-add-count invariant-loop decreases-loop
+add-count : tie.Need-overflow_add-count invariant-loop-at decreases-loop-at
 add-count c = search rules
 
-loop-less : tie.Need-loop-smaller invariant-loop decreases-loop
+loop-less : tie.Need-loop-at-smaller invariant-loop-at decreases-loop-at
 loop-less c =
-    let e = c.before.before.before in
-    omega (arith, (ends e).later e.before.loop-test.true, (ends e).ranges e.before.before.loop.invariant.fits)
+    let e = c in
+    omega (arith, (ends e.before.before.before).later e.loop-at-test.true, (ends e.before.before.before).fits e.loop-at.invariant.fits)
 
-loop-again : tie.Need-loop-preserved invariant-loop decreases-loop
+loop-again : tie.Need-loop-at-preserved invariant-loop-at decreases-loop-at
 loop-again c =
-    let r = c.before in
-    let e = r.before.before in
-    let l = e.before in
-    rw (handed r)
-    (down-next _ _ _ _ l.before.loop.invariant l.loop-test.true e.line-end.ensures r.line-in.ensures)
+    let r = c in
+    let e = r in
+    let l = e in
+    rw (handed r.before)
+    (down-next _ _ _ _ l.loop-at.invariant l.loop-at-test.true e.line_end-end.ensures r.line_in-read.ensures)
 
-same_length : tie.Need-same-length invariant-loop decreases-loop
-same_length c = c.before.loop.invariant.same
+same_length : tie.Need-shape_of-page invariant-loop-at decreases-loop-at
+same_length c = c.loop-at.invariant.same
 
-same-length-2 : tie.Need-same-length-2 invariant-loop decreases-loop
-same-length-2 c = c.before.loop.invariant.as_long
+same-length-2 : tie.Need-shape_of-column invariant-loop-at decreases-loop-at
+same-length-2 c = c.loop-at.invariant.as_long
 
-returns : tie.Need-returns invariant-loop decreases-loop
-returns c = down-all _ _ _ _ c.before.loop.invariant c.loop-test.false
+returns : tie.Need-returns invariant-loop-at decreases-loop-at
+returns c = down-all _ _ _ _ c.loop-at.invariant c.loop-at-test.false
 
 pub put_spec : {M : Type 1} → statement M
 put_spec =
     tie.close
     (tie.spec
-    invariant-loop
-    decreases-loop
+    invariant-loop-at
+    decreases-loop-at
     loop-holds
     line-end-requires
     sub-line-in

@@ -12,11 +12,11 @@ use borrow.Author.Rules.{rules}
 use Rattle.sessiontext.proofs.gathered.has_room.Statement.{statement}
 use Rattle.sessiontext.proofs.gathered.has_room.Tie as tie
 
-count : (c : tie.After-session) → let a = c.before.before.before.before.args in
+count : (c : tie.After-session) → let a = c.args in
     c.session.result
     ≡ length (session_text_by gathered_form a.slip (alongside a.lines.now a.coefficients.now))
 count c =
-    let s = c.before.before.before.before in
+    let s = c in
     omega (
       arith,
       c.session.ensures.ends,
@@ -25,27 +25,27 @@ count c =
       s.requires.2,
     )
 
-mul-if1 : tie.Need-overflow-mul-if1
+mul-if1 : tie.Need-overflow_mul-lines
 mul-if1 c = search rules
 
-add-if1 : tie.Need-overflow-add-if1
+add-if1 : tie.Need-overflow_add-lines
 add-if1 c = search rules
 
-returns : tie.Need-returns
+returns : tie.Need-returns-then-lines-room
 returns c =
-    let s = c.before.before in
+    let s = c in
     let many = length-alongside s.args.lines.now s.args.coefficients.now s.requires.0 in
-    sym (le-leb _ s.args.room (omega (arith, gathered-session-short s.requires.1, many, c.if1.true)))
+    sym (le-leb _ s.args.room (omega (arith, gathered-session-short s.requires.1, many, c.if-lines-room.true)))
 
-slice-aggregate-session : tie.Need-slice-aggregate-session
+slice-aggregate-session : tie.Need-slice_bounds-session-end
 slice-aggregate-session c = search rules
 
 session-requires : tie.Need-session-requires
 session-requires c κs = search rules
 
-returns-2 : tie.Need-returns-2
-returns-2 c = ap (◌≤? c.before.before.before.before.before.args.room) (count c.before)
+returns-2 : tie.Need-returns
+returns-2 c = ap (◌≤? c.args.room) (count c.before)
 
-pub has-room-spec : {M : Type 1} → statement M
-has-room-spec =
+pub has_room_spec : {M : Type 1} → statement M
+has_room_spec =
     tie.close (tie.spec mul-if1 add-if1 returns slice-aggregate-session session-requires returns-2)

@@ -11,85 +11,82 @@ use borrow.Author.Rules.{rules}
 use Rattle.sessiontext.proofs.gathered.head.Statement.{statement}
 use Rattle.sessiontext.proofs.gathered.head.Tie as tie
 
-six : (c : tie.After-head) → ReadHead (drop c.before.before.line-end.result
-    c.before.before.before.before.args.text.now) c.head.result
-six c = rw (rest-whole _ c.before.before.line-end.ensures) at c.head.ensures
+six : (c : tie.After-head-plain) → ReadHead (drop c.line_end-front.result
+    c.args.text.now) c.head-plain.result
+six c = rw (rest-whole _ c.line_end-front.ensures) at c.head-plain.ensures
 
-line-end-requires : tie.Need-line-end-requires
+line-end-requires : tie.Need-line_end-front-requires
 line-end-requires c κs = search rules
 
-sub-head : tie.Need-overflow-sub-head
-sub-head c = front_fits _ c.line-end.ensures
+sub-head : tie.Need-slice_bounds-head-count
+sub-head c = front_fits _ c.line_end-front.ensures
 
-part-head-start : tie.Need-slice-bounds-head-start
-part-head-start c = front_fits _ c.line-end.ensures
+part-head-start : tie.Need-slice_bounds-head-start
+part-head-start c = front_fits _ c.line_end-front.ensures
 
-part-head-end : tie.Need-slice-bounds-head-end
+part-head-end : tie.Need-slice_bounds-head-end
 part-head-end c = search rules
 
-head-requires : tie.Need-head-requires
+head-requires : tie.Need-head-plain-requires
 head-requires c κs = search rules
 
-in-mode-requires : tie.Need-in-mode-requires
+in-mode-requires : tie.Need-in_mode-slip-requires
 in-mode-requires c κs = search rules
 
-slice-aggregate-same : tie.Need-slice-aggregate-same
-slice-aggregate-same c = sym (length-take-le _ _ (front_fits _ c.before.before.before.before.line-end.ensures))
-
-slice-aggregate-same-2 : tie.Need-slice-aggregate-same-2
-slice-aggregate-same-2 c = search rules
+slice-aggregate-same : tie.Need-slice_bounds-same-end
+slice-aggregate-same c = sym (length-take-le _ _ (front_fits _ c.line_end-front.ensures))
 
 same-requires : tie.Need-same-requires
 same-requires c κs = search rules
 
-returns : tie.Need-returns
+returns : tie.Need-returns-then-not-same
 returns c =
-    let s = c.before in
-    mode-fault _ s.before.before.before.before.before.before.line-end.ensures s.same.ensures
-    (not-true _ c.if1.true) _
+    let s = c in
+    mode-fault _ s.line_end-front.ensures s.same.ensures
+    (not-true _ c.if-not-same.true-raw) _
 
-add-t16 : tie.Need-overflow-add-t16
+add-t16 : tie.Need-overflow_add-result
 add-t16 c =
-    let s = c.before.before.before.before in
-    let h = s.before.before.before.before in
+    let s = c in
+    let h = s in
     record {
       fits =
           omega (
             arith,
-            few _ h.before.before.line-end.ensures s.same.ensures
-                (not-false _ c.before.before.before.if1.false) (six h),
+            few _ h.line_end-front.ensures s.same.ensures
+                (not-false _ c.if-not-same.false-raw) (six h.before.before.before.before.before.before.before.before.before),
           );
     }
 
-returns-2 : tie.Need-returns-2
+returns-2 : tie.Need-returns-then-plain-ne0
 returns-2 c =
-    let s = c.before.before.before.before in
-    let h = s.before.before.before.before in
-    head-fault _ h.before.before.line-end.ensures s.same.ensures
-    (not-false _ c.before.before.before.if1.false) (six h)
-    c.before.if2.true _
+    let s = c in
+    let h = s in
+    head-fault _ h.line_end-front.ensures s.same.ensures
+    (not-false _ c.if-not-same.false-raw) (six h.before.before.before.before.before.before.before.before.before)
+    c.if-plain-ne0.true _
 
-add-t7 : tie.Need-overflow-add-t7
+add-t7 : tie.Need-overflow_add-result-2
 add-t7 c =
-    let s = c.before.before.before.before in
-    let h = s.before.before.before.before in
+    let s = c in
+    let h = s in
     record {
       fits =
           omega (
             arith,
-            end_fits _ h.before.before.line-end.ensures s.same.ensures
-                (not-false _ c.before.before.before.if1.false) (six h),
+            end_fits _ h.line_end-front.ensures s.same.ensures
+                (not-false _ c.if-not-same.false-raw) (six h.before.before.before.before.before.before.before.before.before),
           );
     }
 
-returns-3 : tie.Need-returns-3
+returns-3 : tie.Need-returns
 returns-3 c =
-    let s = c.before.before.before.before in
-    let m = s.before.before.before in
-    let h = m.before in
-    head_read _ h.before.before.line-end.ensures s.same.ensures
-    (not-false _ c.before.before.before.if1.false) (six h)
-    c.before.if2.false _ m.in-mode.ensures
+    let s = c in
+    let m = s in
+    let h = m in
+    head_read _ h.line_end-front.ensures s.same.ensures
+    (not-false _ c.if-not-same.false-raw) (six h.before.before.before.before.before.before.before.before.before)
+    c.if-plain-ne0.false _ m.in_mode-slip.ensures
 
 pub head_spec : {M : Type 1} → statement M
 head_spec =
@@ -102,7 +99,6 @@ head_spec =
     head-requires
     in-mode-requires
     slice-aggregate-same
-    slice-aggregate-same-2
     same-requires
     returns
     add-t16

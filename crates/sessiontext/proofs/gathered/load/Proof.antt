@@ -28,7 +28,7 @@ use Rattle.sessiontext.proofs.gathered.load.Statement.{statement}
 use Rattle.sessiontext.proofs.gathered.load.Tie as tie
 
 -- ---- what is lent
-module _ (c : tie.Else2) where
+module _ (c : tie.Else-page-coefficients) where
   abbrev start : tie.Start
   start = c.before.before.before.before
 
@@ -39,24 +39,24 @@ module _ (c : tie.Else2) where
   lent = (start.args.page.now, start.args.coefficients.now)
 
   alike : length lent.0 ≡ length lent.1
-  alike = c.if2.false
+  alike = c.if-page-coefficients.false
 
   passes : first_of (gathered_mode.lent_checks lent) ≡ 0
-  passes = lent-passes lent.0 lent.1 c.before.if1.false alike
+  passes = lent-passes lent.0 lent.1 c.if-page-gt-PAGE_LIMIT.false alike
 
 -- ---- the first seven lines
-module _ (c : tie.Else3) where
-  abbrev begin : tie.Else2
+module _ (c : tie.Else-head-ne0) where
+  abbrev begin : tie.Else-page-coefficients
   begin = c.before.before.before
 
   abbrev read : HeadRead
-  read = c.before.before.head.result
+  read = c.head-head.result
 
   read_head : ReadFronted (text begin) read
-  read_head = c.before.before.head.ensures
+  read_head = c.head-head.ensures
 
   none : read.fault ≡ 0
-  none = c.if3.false
+  none = c.if-head-ne0.false
 
   its-slip : read.slip ≡ slip_by gathered_form (text begin)
   its-slip = read_head.slip none
@@ -78,30 +78,30 @@ module _ (c : tie.Else3) where
   its-mode = ap (λ (s : Slip). s.mode) its-slip
 
 -- ---- all lines
-module _ (c : tie.Else4) where
-  abbrev front : tie.Else3
+module _ (c : tie.Else-fault-ne0) where
+  abbrev front : tie.Else-head-ne0
   front = c.before.before.before
 
   good : fault_by gathered_form degree_limit (text (begin front)) ≡ 0
   good =
       line-fault gathered_form (text (begin front)) refl (sym (read_head front).first ∙ none front)
-      (rw ((read_head front).rest (none front)) at c.before.first-fault.ensures)
-      ∙ c.if4.false
+      (rw ((read_head front).rest (none front)) at c.first_fault-fault.ensures)
+      ∙ c.if-fault-ne0.false
 
   all-formed : Each (WaitingBy gathered_form degree_limit) (lines_of (drop (read front).end (text (begin front))))
   all-formed =
       rw ((read_head front).rest (none front))
       (formed gathered_form degree_limit (text (begin front)) good).lines
 
-module _ (c : tie.Else5) where
-  abbrev lines-read : tie.Else4
+module _ (c : tie.Else-page-slip) where
+  abbrev lines-read : tie.Else-fault-ne0
   lines-read = c.before.before
 
-  abbrev head_read : tie.Else3
+  abbrev head_read : tie.Else-head-ne0
   head_read = front lines-read
 
   room : (read head_read).slip.lines ≤ length (lent (begin head_read)).0
-  room = c.if5.false
+  room = c.if-page-slip.false
 
   its-room : length (lines_by gathered_form (text (begin head_read))) ≤ length (lent (begin head_read)).0
   its-room = omega (arith, its-count head_read, room)
@@ -111,7 +111,7 @@ module _ (c : tie.Else5) where
     fits = (read_head head_read).fits (none head_read);
     formed = all-formed lines-read;
     count = follows head_read;
-    few = omega (arith, room, (begin head_read).before.if1.left);
+    few = omega (arith, room, (begin head_read).if-page-gt-PAGE_LIMIT.false);
     mode = its-mode head_read;
   }
 
@@ -125,93 +125,93 @@ sound-is c =
 unloaded-requires : tie.Need-unloaded-requires
 unloaded-requires c κs = search rules
 
-returns : tie.Need-returns
+returns : tie.Need-returns-then-page-gt-PAGE_LIMIT
 returns c =
-    let a = c.before.before.before.before.args in
+    let a = c.args in
     rw c.unloaded.ensures
     (lent-refuses gathered-faithful a.text.now (a.page.now, a.coefficients.now) 6
-    (rw (lt-ltb page_limit (length a.page.now) c.before.if1.true) refl) (λ z. omega arith) refl)
+    (rw (lt-ltb page_limit (length a.page.now) c.if-page-gt-PAGE_LIMIT.true) refl) (λ z. omega arith) refl)
 
-unloaded-requires-2 : tie.Need-unloaded-requires-2
+unloaded-requires-2 : tie.Need-unloaded-requires-then-page-coefficients
 unloaded-requires-2 c κs = search rules
 
-returns-2 : tie.Need-returns-2
+returns-2 : tie.Need-returns-then-page-coefficients
 returns-2 c =
-    let a = c.before.before.before.before.before.args in
-    rw c.unloaded2.ensures
+    let a = c.args in
+    rw c.unloaded-then-page-coefficients.ensures
     (lent-refuses gathered-faithful a.text.now (a.page.now, a.coefficients.now) 21
     (rw (
-      le-ltb page_limit (length a.page.now) c.before.before.if1.false,
-      ne_eqb (length a.page.now) (length a.coefficients.now) c.before.if2.true,
+      le-ltb page_limit (length a.page.now) c.if-page-gt-PAGE_LIMIT.false,
+      ne_eqb (length a.page.now) (length a.coefficients.now) c.if-page-coefficients.true,
     ) refl) (λ z. omega arith) refl)
 
-head-requires : tie.Need-head-requires
+head-requires : tie.Need-head-head-requires
 head-requires c κs = search rules
 
-unloaded-requires-3 : tie.Need-unloaded-requires-3
+unloaded-requires-3 : tie.Need-unloaded-requires-then-head-ne0
 unloaded-requires-3 c κs = search rules
 
-returns-3 : tie.Need-returns-3
+returns-3 : tie.Need-returns-then-head-ne0
 returns-3 c =
-    let t = c.before in
-    let h = t.before.before in
-    let b = h.before in
-    rw c.unloaded3.ensures
-    (text-faulty gathered-faithful (text b) (lent b) (passes b)
-    (head-fault gathered_form (text b) h.head.ensures.first t.if3.true) t.if3.true)
+    let t = c in
+    let h = t in
+    let b = h in
+    rw c.unloaded-then-head-ne0.ensures
+    (text-faulty gathered-faithful (text b.before.before.before.before) (lent b.before.before.before.before) (passes b.before.before.before.before)
+    (head-fault gathered_form (text b.before.before.before.before) h.head-head.ensures.first t.if-head-ne0.true) t.if-head-ne0.true)
 
-first-fault-requires : tie.Need-first-fault-requires
+first-fault-requires : tie.Need-first_fault-fault-requires
 first-fault-requires c κs =
-    let e = c.before in
-    ((read_head e).far (none e), (read_head e).ranges (none e))
+    let e = c in
+    ((read_head e.before).far (none e.before), (read_head e.before).fits (none e.before))
 
-unloaded-requires-4 : tie.Need-unloaded-requires-4
+unloaded-requires-4 : tie.Need-unloaded-requires-then-fault-ne0
 unloaded-requires-4 c κs = search rules
 
-returns-4 : tie.Need-returns-4
+returns-4 : tie.Need-returns-then-fault-ne0
 returns-4 c =
-    let t = c.before in
-    let j = t.before in
-    let e = j.before.before in
-    let b = begin e in
-    rw c.unloaded4.ensures
+    let t = c in
+    let j = t in
+    let e = j in
+    let b = begin e.before.before.before.before in
+    rw c.unloaded-then-fault-ne0.ensures
     (text-faulty gathered-faithful (text b) (lent b) (passes b)
-    (line-fault gathered_form (text b) refl (sym (read_head e).first ∙ none e)
-    (rw ((read_head e).rest (none e)) at j.first-fault.ensures)) t.if4.true)
+    (line-fault gathered_form (text b) refl (sym (read_head e.before.before.before.before).first ∙ none e.before.before.before.before)
+    (rw ((read_head e.before.before.before.before).rest (none e.before.before.before.before)) at j.first_fault-fault.ensures)) t.if-fault-ne0.true)
 
-unloaded-requires-5 : tie.Need-unloaded-requires-5
+unloaded-requires-5 : tie.Need-unloaded-requires-then-page-slip
 unloaded-requires-5 c κs = search rules
 
-returns-5 : tie.Need-returns-5
+returns-5 : tie.Need-returns-then-page-slip
 returns-5 c =
-    let t = c.before in
-    let e = t.before.before in
-    let b = begin (front e) in
-    rw c.unloaded5.ensures
-    (lines-many gathered-faithful (text b) (lent b) (passes b) (good e)
-    (omega (arith, its-count (front e), t.if5.true)))
+    let t = c in
+    let e = t in
+    let b = begin (front e.before.before.before) in
+    rw c.unloaded-then-page-slip.ensures
+    (lines-many gathered-faithful (text b) (lent b) (passes b) (good e.before.before.before)
+    (omega (arith, its-count (front e.before.before.before), t.if-page-slip.true)))
 
 sound-requires : tie.Need-sound-requires
 sound-requires c κs = taken c
 
-unloaded-requires-6 : tie.Need-unloaded-requires-6
+unloaded-requires-6 : tie.Need-unloaded-requires-then-not-sound
 unloaded-requires-6 c κs = search rules
 
-returns-6 : tie.Need-returns-6
+returns-6 : tie.Need-returns-then-not-sound
 returns-6 c =
-    let t = c.before in
-    let s = t.before in
-    let e = s.before in
-    let b = begin (head_read e) in
-    rw c.unloaded6.ensures
-    (lines-unsound gathered-faithful (text b) (lent b) (passes b) (good (lines-read e)) (its-room e) (sound-is s)
-    (not-true _ t.if6.true))
+    let t = c in
+    let s = t in
+    let e = s in
+    let b = begin (head_read e.before.before.before) in
+    rw c.unloaded-then-not-sound.ensures
+    (lines-unsound gathered-faithful (text b) (lent b) (passes b) (good (lines-read e.before.before.before)) (its-room e.before.before.before) (sound-is s.before.before)
+    (not-true _ t.if-not-sound.true-raw))
 
 put-requires : tie.Need-put-requires
 put-requires c κs =
-    let e = c.before.before.before.before in
-    let b = begin (head_read e) in
-    ((taken e).ranges, ((taken e).formed, (omega (arith, (taken e).count, room e), alike b)))
+    let e = c in
+    let b = begin (head_read e.before.before.before.before) in
+    ((taken e.before.before.before.before).fits, ((taken e.before.before.before.before).formed, (omega (arith, (taken e.before.before.before.before).count, room e.before.before.before.before), alike b)))
 
 words-requires : tie.Need-words-requires
 words-requires c κs = search rules
@@ -219,28 +219,28 @@ words-requires c κs = search rules
 coefficients-requires : tie.Need-coefficients-requires
 coefficients-requires c κs = search rules
 
-same_length : tie.Need-same-length
+same_length : tie.Need-shape_of-page
 same_length c = search rules
 
-same-length-2 : tie.Need-same-length-2
+same-length-2 : tie.Need-shape_of-coefficients
 same-length-2 c = search rules
 
-returns-7 : tie.Need-returns-7
+returns-7 : tie.Need-returns
 returns-7 c =
-    let k2 = c.before in
-    let k1 = k2.before.before.before.before in
-    let p = k1.before.before.before.before.before in
-    let i = p.before.before.before in
-    let s = i.before in
-    let e = s.before in
-    let h = head_read e in
+    let k2 = c in
+    let k1 = k2 in
+    let p = k1 in
+    let i = p in
+    let s = i in
+    let e = s in
+    let h = head_read e.before.before.before.before.before.before.before.before.before.before.before.before.before.before.before in
     let b = begin h in
     rw (its-slip h)
-    (loads gathered-faithful (text b) (lent b) (passes b) (good (lines-read e)) (its-room e) (sound-is s)
-    (not-false _ i.if6.false)
+    (loads gathered-faithful (text b) (lent b) (passes b) (good (lines-read e.before.before.before.before.before.before.before.before.before.before.before.before.before.before.before)) (its-room e.before.before.before.before.before.before.before.before.before.before.before.before.before.before.before) (sound-is s.before.before.before.before.before.before.before.before.before.before.before.before.before.before)
+    (not-false _ i.if-not-sound.false-raw)
     (rw (its-lines h) at
-    (put-down (read h).slip _ (taken e).count (room e) (alike b) p.put.ensures k1.words.ensures
-    k2.coefficients2.ensures)))
+    (put-down (read h).slip _ (taken e.before.before.before.before.before.before.before.before.before.before.before.before.before.before.before).count (room e.before.before.before.before.before.before.before.before.before.before.before.before.before.before.before) (alike b) p.put.ensures k1.words.ensures
+    k2.coefficients.ensures)))
 
 pub load_spec : {M : Type 1} → statement M
 load_spec =

@@ -22,7 +22,7 @@ use Rattle.sessiontext.proofs.gathered.save.Statement.{statement}
 use Rattle.sessiontext.proofs.gathered.save.Tie as tie
 
 -- ---- what the judge tells
-module _ (c : tie.Else1) where
+module _ (c : tie.Else-refused-ne0) where
   abbrev start : tie.Start
   start = c.before.before.before.before
 
@@ -30,7 +30,7 @@ module _ (c : tie.Else1) where
   lent = (start.args.page.now, start.args.coefficients.now)
 
   none : first_of (page_checks_in gathered_mode degree_limit start.args.slip lent) ≡ 0
-  none = sym c.before.refusal.ensures ∙ c.if1.false
+  none = sym c.refusal-refused.ensures ∙ c.if-refused-ne0.false
 
   passed : (first_of (gathered_mode.lent_checks lent) ≡ 0) × SoundIn gathered_mode degree_limit start.args.slip lent
   passed = passed-page gathered-lawful degree_limit start.args.slip lent none
@@ -57,59 +57,59 @@ module _ (c : tie.Else1) where
 fits : (c : tie.Start) → length c.args.text.now ≤ most
 fits c = omega arith
 
-refusal-requires : tie.Need-refusal-requires
+refusal-requires : tie.Need-refusal-refused-requires
 refusal-requires c κs = search rules
 
-returns : tie.Need-returns
+returns : tie.Need-returns-then-refused-ne0
 returns c =
-    let a = c.before.before.before.before.args in
-    page-refuses gathered-faithful a.slip _ a.text.now c.before.refusal.result c.before.refusal.ensures
-    c.if1.true
+    let a = c.args in
+    page-refuses gathered-faithful a.slip _ a.text.now c.refusal-refused.result c.refusal-refused.ensures
+    c.if-refused-ne0.true
 
-slice-aggregate-has-room : tie.Need-slice-aggregate-has-room
-slice-aggregate-has-room c = sym (length-take-le _ _ (page-fits c.before))
+slice-aggregate-has-room : tie.Need-slice_bounds-has_room-end
+slice-aggregate-has-room c = sym (length-take-le _ _ (page-fits c))
 
-slice-aggregate-has-room-2 : tie.Need-slice-aggregate-has-room-2
-slice-aggregate-has-room-2 c = sym (length-take-le _ _ (column_fits c.before.before))
+slice-aggregate-has-room-2 : tie.Need-slice_bounds-has_room-end-2
+slice-aggregate-has-room-2 c = sym (length-take-le _ _ (column_fits c))
 
-has-room-requires : tie.Need-has-room-requires
+has-room-requires : tie.Need-has_room-requires
 has-room-requires c κs =
-    let e = c.before.before in
+    let e = c in
     (as_many e, storable e, few e)
 
-returns-2 : tie.Need-returns-2
+returns-2 : tie.Need-returns-then-not-has_room
 returns-2 c =
-    let r = c.before in
-    let e = r.before.before.before in
-    room-refuses gathered-faithful (start e).args.slip (lent e) (start e).args.text.now (none e)
-    (leb-false _ _ (sym r.has_room.ensures ∙ not-true _ c.if2.true))
+    let r = c in
+    let e = r in
+    room-refuses gathered-faithful (start e.before.before).args.slip (lent e.before.before) (start e.before.before).args.text.now (none e.before.before)
+    (leb-false _ _ (sym r.has_room.ensures ∙ not-true _ c.if-not-has_room.true-raw))
 
-slice-aggregate-session : tie.Need-slice-aggregate-session
-slice-aggregate-session c = sym (length-take-le _ _ (page-fits c.before.before.before.before.before))
+slice-aggregate-session : tie.Need-slice_bounds-session-end
+slice-aggregate-session c = sym (length-take-le _ _ (page-fits c.before.before))
 
-slice-aggregate-session-2 : tie.Need-slice-aggregate-session-2
+slice-aggregate-session-2 : tie.Need-slice_bounds-session-end-2
 slice-aggregate-session-2 c =
-    sym (length-take-le _ _ (column_fits c.before.before.before.before.before.before))
+    sym (length-take-le _ _ (column_fits c.before.before))
 
 session-requires : tie.Need-session-requires
 session-requires c κs =
-    let e = c.before.before.before.before.before.before.before in
-    (as_many e, storable e)
+    let e = c in
+    (as_many e.before.before.before, storable e.before.before.before)
 
-same_length : tie.Need-same-length
+same_length : tie.Need-shape_of-text
 same_length c = search rules
 
-returns-3 : tie.Need-returns-3
+returns-3 : tie.Need-returns
 returns-3 c =
-    let w = c.before.before in
-    let i = w.before.before.before.before in
-    let r = i.before in
-    let e = r.before.before.before in
-    saves gathered-faithful (start e).args.slip (lent e) (start e).args.text.now (none e)
-    (leb-true _ _ (sym r.has_room.ensures ∙ not-false _ i.if2.false)) (fits (start e)) w.session.ensures
+    let w = c in
+    let i = w in
+    let r = i in
+    let e = r in
+    saves gathered-faithful (start e.before.before.before.before.before.before).args.slip (lent e.before.before.before.before.before.before) (start e.before.before.before.before.before.before).args.text.now (none e.before.before.before.before.before.before)
+    (leb-true _ _ (sym r.has_room.ensures ∙ not-false _ i.if-not-has_room.false-raw)) (fits (start e.before.before.before.before.before.before)) w.session.ensures
 
-pub save-spec : {M : Type 1} → statement M
-save-spec =
+pub save_spec : {M : Type 1} → statement M
+save_spec =
     tie.close
     (tie.spec
     refusal-requires

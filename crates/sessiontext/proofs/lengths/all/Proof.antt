@@ -22,71 +22,71 @@ use Rattle.sessiontext.proofs.lengths.all.Tie as tie
 abbrev word_text : ℕ → Text
 word_text x = line_text (line_of x)
 
-abbrev invariant-loop : tie.invariant-loop
-invariant-loop lines long₀ i₀ long i =
+abbrev invariant-loop-i : tie.invariant-loop-i
+invariant-loop-i lines long₀ i₀ long i =
     (i ≤ length lines) × ((long ≡ length (joined word_text (take i lines))) × (long ≤ i * line_room))
 
-abbrev decreases-loop : tie.decreases-loop
-decreases-loop lines long₀ i₀ long i = length lines - i
+abbrev decreases-loop-i : tie.decreases-loop-i
+decreases-loop-i lines long₀ i₀ long i = length lines - i
 
-its-line : (c : tie.In-loop invariant-loop decreases-loop)
-    → StorableLine degree_limit (line_of (get_or c.before.before.before.args.lines.now c.before.loop.i 0))
+its-line : (c : tie.In-loop-i invariant-loop-i decreases-loop-i)
+    → StorableLine degree_limit (line_of (get_or c.args.lines.now c.loop-i.i 0))
 its-line c =
-    let s = c.before.before.before in
-    each_at (λ x. StorableLine degree_limit (line_of x)) s.args.lines.now 0 c.before.loop.i
-    (each-mapped (StorableLine degree_limit) line_of s.args.lines.now s.requires.0) c.loop-test.true
+    let s = c in
+    each_at (λ x. StorableLine degree_limit (line_of x)) s.args.lines.now 0 c.loop-i.i
+    (each-mapped (StorableLine degree_limit) line_of s.args.lines.now s.requires.0) c.loop-i-test.true
 
-short : (c : tie.After-line invariant-loop decreases-loop) → c.line.result ≤ line_room
-short c = omega (arith, c.line.ensures, plain-line-short _ (its-line c.before.before))
+short : (c : tie.After-line-long invariant-loop-i decreases-loop-i) → c.line-long.result ≤ line_room
+short c = omega (arith, c.line-long.ensures, plain-line-short _ (its-line c.before.before))
 
-loop-holds : tie.Need-loop-init invariant-loop decreases-loop
+loop-holds : tie.Need-loop-i-init invariant-loop-i decreases-loop-i
 loop-holds c = (omega arith, (refl, omega arith))
 
-mul-line : tie.Need-overflow-mul-line invariant-loop decreases-loop
+mul-line : tie.Need-offset_bounds-lines-i invariant-loop-i decreases-loop-i
 mul-line c = search rules
 
-shared-slice-read-line : tie.Need-shared-slice-read-line invariant-loop decreases-loop
+shared-slice-read-line : tie.Need-bounds-lines-i invariant-loop-i decreases-loop-i
 shared-slice-read-line c = search rules
 
-line-requires : tie.Need-line-requires invariant-loop decreases-loop
+line-requires : tie.Need-line-long-requires invariant-loop-i decreases-loop-i
 line-requires c κs = its-line c.before
 
-add-long : tie.Need-overflow-add-long invariant-loop decreases-loop
+add-long : tie.Need-overflow_add-long invariant-loop-i decreases-loop-i
 add-long c =
-    let l = c.before.before in
-    record { fits = omega (arith, short c, l.loop-test.true, l.before.before.before.requires.1) }
+    let l = c in
+    record { fits = omega (arith, short c, l.loop-i-test.true, l.requires.1) }
 
-add-i : tie.Need-overflow-add-i invariant-loop decreases-loop
+add-i : tie.Need-overflow_add-i invariant-loop-i decreases-loop-i
 add-i c = search rules
 
-loop-less : tie.Need-loop-smaller invariant-loop decreases-loop
+loop-less : tie.Need-loop-i-smaller invariant-loop-i decreases-loop-i
 loop-less c = omega arith
 
-loop-again : tie.Need-loop-preserved invariant-loop decreases-loop
+loop-again : tie.Need-loop-i-preserved invariant-loop-i decreases-loop-i
 loop-again c =
-    let l = c.before.before in
-    let lines = l.before.before.before.args.lines.now in
-    let i = l.before.loop.invariant in
-    let next = joined-next word_text lines 0 l.before.loop.i l.loop-test.true in (
-      omega (arith, l.loop-test.true),
+    let l = c in
+    let lines = l.args.lines.now in
+    let i = l.loop-i.invariant in
+    let next = joined-next word_text lines 0 l.loop-i.i l.loop-i-test.true in (
+      omega (arith, l.loop-i-test.true),
       (
-        rw (add-one, next) (simp length-append (omega (arith, i.1.0, c.line.ensures))),
+        rw (add-one, next) (simp length-append (omega (arith, i.1.0, c.line-long.ensures))),
         omega (arith, i.1.1, short c),
       ),
     )
 
-returns : tie.Need-returns invariant-loop decreases-loop
+returns : tie.Need-returns invariant-loop-i decreases-loop-i
 returns c =
-    let lines = c.before.before.before.args.lines.now in
+    let lines = c.args.lines.now in
     rw (joined-map line_text line_of lines)
-    (rw (take_all c.before.loop.i lines c.loop-test.false) at c.before.loop.invariant.1.0)
+    (rw (take_all c.loop-i.i lines c.loop-i-test.false) at c.loop-i.invariant.1.0)
 
-pub all-spec : {M : Type 1} → statement M
-all-spec =
+pub all_spec : {M : Type 1} → statement M
+all_spec =
     tie.close
     (tie.spec
-    invariant-loop
-    decreases-loop
+    invariant-loop-i
+    decreases-loop-i
     loop-holds
     mul-line
     shared-slice-read-line

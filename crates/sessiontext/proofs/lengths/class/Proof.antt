@@ -5,17 +5,17 @@ use Rattle.sessiontext.proofs.Counted.{no-cycles, class-some, class-few, class-c
 use Rattle.sessiontext.proofs.lengths.class.Statement.{statement}
 use Rattle.sessiontext.proofs.lengths.class.Tie as tie
 
-returns : tie.Need-returns
-returns c = no-cycles c.if1.true
+returns : tie.Need-returns-then-word-eq0
+returns c = no-cycles c.if-word-eq0.true
 
 list-requires : tie.Need-list-requires
 list-requires c κs =
-    let count = class-some c.before.requires c.if1.false in
-    let few = class-few c.before.requires c.if1.false in
+    let count = class-some c.requires c.if-word-eq0.false in
+    let few = class-few c.requires c.if-word-eq0.false in
     (omega arith, omega arith)
 
-returns-2 : tie.Need-returns-2
-returns-2 c = c.list.ensures ∙ class-counted c.before.before.requires c.before.if1.false
+returns-2 : tie.Need-returns
+returns-2 c = c.list.ensures ∙ class-counted c.requires c.if-word-eq0.false
 
-pub class-spec : {M : Type 1} → statement M
-class-spec = tie.close (tie.spec returns list-requires returns-2)
+pub class_spec : {M : Type 1} → statement M
+class_spec = tie.close (tie.spec returns list-requires returns-2)

@@ -13,13 +13,13 @@ use borrow.Author.Rules.{rules}
 use Rattle.sessiontext.proofs.lengths.line.Statement.{statement}
 use Rattle.sessiontext.proofs.lengths.line.Tie as tie
 
-long : (c : tie.After-class2) → 9 + c.before.before.shape2.result + c.class2.result
-    ≡ length (line_text (line_of c.before.before.before.before.args.line))
+long : (c : tie.After-class-cycles) → 9 + c.shape-rows.result + c.class-cycles.result
+    ≡ length (line_text (line_of c.args.line))
 long c =
-    let r = c.before.before in
-    let l = line_of r.before.before.args.line in
-    let rows = rw r.before.shape.ensures at r.shape2.ensures in
-    let cycles = rw c.before.class.ensures at c.class2.ensures in
+    let r = c in
+    let l = line_of r.args.line in
+    let rows = rw r.shape.ensures at r.shape-rows.ensures in
+    let cycles = rw c.class.ensures at c.class-cycles.ensures in
     omega (
       arith,
       rows,
@@ -27,33 +27,33 @@ long c =
       waiting-length (not (non_neg l.weight)) (shape_of l.shape) (class_of l.class),
     )
 
-its-room : (c : tie.After-class2) →
-    length (line_text (line_of c.before.before.before.before.args.line)) ≤ line_room
-its-room c = plain-line-short _ c.before.before.before.before.requires
+its-room : (c : tie.After-class-cycles) →
+    length (line_text (line_of c.args.line)) ≤ line_room
+its-room c = plain-line-short _ c.requires
 
 shape-requires : tie.Need-shape-requires
 shape-requires c κs = search rules
 
-shape-requires-2 : tie.Need-shape-requires-2
-shape-requires-2 c κs = rw c.shape.ensures c.before.requires.shape
+shape-requires-2 : tie.Need-shape-rows-requires
+shape-requires-2 c κs = rw c.shape.ensures c.requires.shape
 
 class-requires : tie.Need-class-requires
 class-requires c κs = search rules
 
-class-requires-2 : tie.Need-class-requires-2
-class-requires-2 c κs = rw c.class.ensures c.before.before.before.requires.class
+class-requires-2 : tie.Need-class-cycles-requires
+class-requires-2 c κs = rw c.class.ensures c.requires.class
 
-add-result : tie.Need-overflow-add-result
+add-result : tie.Need-overflow_add-result
 add-result c = record { fits = omega (arith, long c, its-room c) }
 
-add-result-2 : tie.Need-overflow-add-result-2
+add-result-2 : tie.Need-overflow_add-result-2
 add-result-2 c = record { fits = omega (arith, long c, its-room c) }
 
 returns : tie.Need-returns
 returns c = long c
 
-pub line-spec : {M : Type 1} → statement M
-line-spec =
+pub line_spec : {M : Type 1} → statement M
+line_spec =
     tie.close
     (tie.spec
     shape-requires

@@ -4,7 +4,7 @@ use borrow.Author.Rules.{rules}
 use Rattle.sessiontext.proofs.numbers.integer_in.Statement.{statement}
 use Rattle.sessiontext.proofs.numbers.integer_in.Tie as tie
 
-number-in-requires : tie.Need-number-in-requires
+number-in-requires : tie.Need-number_in-size-requires
 number-in-requires c κs = search rules
 
 find-requires : tie.Need-find-requires
@@ -15,9 +15,9 @@ signed-requires c κs = search rules
 
 returns : tie.Need-returns
 returns c =
-    let f = c.before in
-    let t = f.before.before.before.args.text.now in
-    integer-read t (rw (found-minus t f.find.ensures, f.before.number_in.ensures) at c.signed.ensures)
+    let f = c in
+    let t = f.args.text.now in
+    integer-read t (rw (found-minus t f.find.ensures, f.number_in-size.ensures) at c.signed.ensures)
 
-pub integer-in-spec : {M : Type 1} → statement M
-integer-in-spec = tie.close (tie.spec number-in-requires find-requires signed-requires returns)
+pub integer_in_spec : {M : Type 1} → statement M
+integer_in_spec = tie.close (tie.spec number-in-requires find-requires signed-requires returns)

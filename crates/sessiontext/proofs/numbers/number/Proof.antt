@@ -8,23 +8,23 @@ use borrow.Author.Rules.{rules}
 use Rattle.sessiontext.proofs.numbers.number.Statement.{statement}
 use Rattle.sessiontext.proofs.numbers.number.Tie as tie
 
-line : (c : tie.After-number) → let s = c.before.before.before.before.before in
-    Own (text_line s.args.name.now (decimal c.before.before.number_in.result)) c.number.result c.number.new.1.1.0
-line c = own c.number.ensures (number_short c.before.before.before.before.before.requires _) (omega arith)
+line : (c : tie.After-number-end) → let s = c in
+    Own (text_line s.args.name.now (decimal c.number_in-number.result)) c.number-end.result c.number-end.new.out
+line c = own c.number-end.ensures (number_short c.requires _) (omega arith)
 
-number-in-requires : tie.Need-number-in-requires
+number-in-requires : tie.Need-number_in-number-requires
 number-in-requires c κs = search rules
 
-slice-aggregate-number : tie.Need-slice-aggregate-number
+slice-aggregate-number : tie.Need-slice_bounds-number-end
 slice-aggregate-number c = search rules
 
-number-requires : tie.Need-number-requires
+number-requires : tie.Need-number-end-requires
 number-requires c κs = search rules
 
-array-share-prefix-own : tie.Need-array-share-prefix-own
+array-share-prefix-own : tie.Need-slice_bounds-own-end
 array-share-prefix-own c = (line c.before).inside
 
-slice-aggregate-same : tie.Need-slice-aggregate-same
+slice-aggregate-same : tie.Need-slice_bounds-same-end
 slice-aggregate-same c = own-count (line c.before.before)
 
 same-requires : tie.Need-same-requires
@@ -32,16 +32,16 @@ same-requires c κs = search rules
 
 returns : tie.Need-returns
 returns c =
-    let s = c.before.before.before.before.before.before.before.before in
+    let s = c in
     let l = (line c.before.before.before).front in
     let same = c.same.ensures in
-    number_read s.requires c.before.before.before.before.before.number_in.ensures (
+    number_read s.requires c.number_in-number.ensures (
       λ b. same.0 b ∙ l,
       λ e. same.1 (e ∙ sym l),
     )
 
-pub number-spec : {M : Type 1} → statement M
-number-spec =
+pub number_spec : {M : Type 1} → statement M
+number_spec =
     tie.close
     (tie.spec
     number-in-requires

@@ -13,59 +13,55 @@ use Rattle.sessiontext.proofs.numbers.settled.Statement.{statement}
 use Rattle.sessiontext.proofs.numbers.settled.Tie as tie
 
 -- the number as a call hands it on to another
-kept : (c : tie.After-struct-told) → let z = c.before.before.before.integer-in.result.number in
+kept : (c : tie.After-struct_told-1) → let z = c.integer_in-read.result.number in
     to_z w64 (of_z w64 z) ≡ z
-kept c = to_z-of_z (search rules)
+kept c = to_z-of_z {w = w64} (search rules)
 
-line : (c : tie.After-integer)
-    → let z = c.before.before.before.before.before.before.integer-in.result.number in
-    Own (field "settled=" (integer z)) c.integer.result c.integer.new.1.1.0
+line : (c : tie.After-integer-end)
+    → let z = c.integer_in-read.result.number in
+    Own (field "settled=" (integer z)) c.integer-end.result c.integer-end.new.out
 line c =
-    let s = c.before.before.before.before.before.before in
-    let short = settled-short _ s.integer-in.ensures (not-false _ c.before.before.before.before.if1.false) in
-    let z = kept c.before.before.before in
-    own (rw z at c.integer.ensures) short (omega arith)
+    let s = c in
+    let short = settled-short _ s.integer_in-read.ensures (not-false _ c.if-not-read.false) in
+    let z = kept c.before.before.before.before in
+    own (rw z at c.integer-end.ensures) short (omega arith)
 
-integer-in-requires : tie.Need-integer-in-requires
+integer-in-requires : tie.Need-integer_in-read-requires
 integer-in-requires c κs = search rules
 
-returns : tie.Need-returns
-returns c = settled-large _ c.before.before.integer-in.ensures (not-true _ c.if1.true)
+returns : tie.Need-returns-then-not-read
+returns c = settled-large _ c.integer_in-read.ensures (not-true _ c.if-not-read.true)
 
-slice-aggregate-integer : tie.Need-slice-aggregate-integer
+slice-aggregate-integer : tie.Need-slice_bounds-integer-end-2
 slice-aggregate-integer c = search rules
 
-slice-aggregate-integer-2 : tie.Need-slice-aggregate-integer-2
-slice-aggregate-integer-2 c = search rules
-
-integer-requires : tie.Need-integer-requires
+integer-requires : tie.Need-integer-end-requires
 integer-requires c κs = search rules
 
-array-share-prefix-own : tie.Need-array-share-prefix-own
+array-share-prefix-own : tie.Need-slice_bounds-own-end
 array-share-prefix-own c = (line c.before).inside
 
-slice-aggregate-same : tie.Need-slice-aggregate-same
+slice-aggregate-same : tie.Need-slice_bounds-same-end
 slice-aggregate-same c = own-count (line c.before.before)
 
 same-requires : tie.Need-same-requires
 same-requires c κs = search rules
 
-returns-2 : tie.Need-returns-2
+returns-2 : tie.Need-returns
 returns-2 c =
-    let s = c.before.before.before.before.before.before.before.before.before in
+    let s = c in
     let l = (line c.before.before.before).front in
     let same = c.same.ensures in
-    rw (kept c.before.before.before.before.before.before)
-    (settled-read _ s.integer-in.ensures (not-false _ c.before.before.before.before.before.before.before.if1.false) (λ b. same.0 b ∙ l, λ e. same.1 (e ∙ sym l)))
+    rw (kept c.before.before.before.before.before.before.before)
+    (settled-read _ s.integer_in-read.ensures (not-false _ c.if-not-read.false) (λ b. same.0 b ∙ l, λ e. same.1 (e ∙ sym l)))
 
-pub settled-spec : {M : Type 1} → statement M
-settled-spec =
+pub settled_spec : {M : Type 1} → statement M
+settled_spec =
     tie.close
     (tie.spec
     integer-in-requires
     returns
     slice-aggregate-integer
-    slice-aggregate-integer-2
     integer-requires
     array-share-prefix-own
     slice-aggregate-same

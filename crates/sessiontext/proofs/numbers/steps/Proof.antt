@@ -4,20 +4,17 @@ use borrow.Author.Rules.{rules}
 use Rattle.sessiontext.proofs.numbers.steps.Statement.{statement}
 use Rattle.sessiontext.proofs.numbers.steps.Tie as tie
 
-slice-aggregate-number : tie.Need-slice-aggregate-number
-slice-aggregate-number c = search rules
-
-number-requires : tie.Need-number-requires
+number-requires : tie.Need-number-read-requires
 number-requires c κs = search rules
 
-cast-t7 : tie.Need-overflow-cast-t7
+cast-t7 : tie.Need-overflow_cast-result
 cast-t7 c = search rules
 
-returns : tie.Need-returns
-returns c = steps-held c.before.before.before.number.ensures c.before.if1.true
+returns : tie.Need-returns-then-read-lt9223372036854775808
+returns c = steps-held c.number-read.ensures c.if-read-lt9223372036854775808.true
 
-returns-2 : tie.Need-returns-2
-returns-2 c = steps-large c.before.before.number.ensures c.if1.false
+returns-2 : tie.Need-returns
+returns-2 c = steps-large c.number-read.ensures c.if-read-lt9223372036854775808.false
 
-pub steps-spec : {M : Type 1} → statement M
-steps-spec = tie.close (tie.spec slice-aggregate-number number-requires cast-t7 returns returns-2)
+pub steps_spec : {M : Type 1} → statement M
+steps_spec = tie.close (tie.spec number-requires cast-t7 returns returns-2)

@@ -8,65 +8,65 @@ use borrow.Author.Rules.{rules}
 use Rattle.sessiontext.proofs.partitions.class_in.Statement.{statement}
 use Rattle.sessiontext.proofs.partitions.class_in.Tie as tie
 
-list-in-requires : tie.Need-list-in-requires
+list-in-requires : tie.Need-list_in-count-requires
 list-in-requires c κs = search rules
 
 unread-requires : tie.Need-unread-requires
 unread-requires c κs = search rules
 
-same_length : tie.Need-same-length
+same_length : tie.Need-shape_of-column-then-count-gt16
 same_length c = search rules
 
-returns : tie.Need-returns
+returns : tie.Need-returns-then-count-gt16
 returns c =
-    let l = c.before.before.before.before in
-    let s = l.before.before.before.before in
+    let l = c in
+    let s = l in
     rw c.unread.ensures
-    (many-parts class_word s.args.text.now s.requires l.list-in.ensures c.before.if1.true)
+    (many-parts class_word s.args.text.now s.requires l.list_in-count.ensures c.if-count-gt16.true)
 
-slice-reshare-prefix-word : tie.Need-slice-reshare-prefix-word
+slice-reshare-prefix-word : tie.Need-slice_bounds-word-end
 slice-reshare-prefix-word c = search rules
 
-slice-aggregate-word : tie.Need-slice-aggregate-word
+slice-aggregate-word : tie.Need-slice_bounds-word-end-2
 slice-aggregate-word c =
-    let l = c.before.before.before.before in
-    let s = l.before.before.before.before in
-    let few = c.before.if1.false in
-    sym (length-take-le _ _ (inside class_word s.args.text.now s.requires l.list-in.ensures few))
+    let l = c in
+    let s = l in
+    let few = c.if-count-gt16.false in
+    sym (length-take-le _ _ (inside class_word s.args.text.now s.requires l.list_in-count.ensures few))
 
-word-requires : tie.Need-word-requires
+word-requires : tie.Need-word-read-requires
 word-requires c κs = search rules
 
-unread-requires-2 : tie.Need-unread-requires-2
+unread-requires-2 : tie.Need-unread-requires-then-read-ne0
 unread-requires-2 c κs = search rules
 
-same-length-2 : tie.Need-same-length-2
+same-length-2 : tie.Need-shape_of-column-then-read-ne0
 same-length-2 c = search rules
 
-returns-2 : tie.Need-returns-2
+returns-2 : tie.Need-returns-then-read-ne0
 unfolding class_word_from
 returns-2 c =
-    let w = c.before.before.before in
-    let l = w.before.before.before.before.before in
-    let s = l.before.before.before.before in
-    rw c.unread2.ensures
-    (parts-refused class_word s.args.text.now s.requires l.list-in.ensures w.before.before.if1.false 4 refl w.word.ensures
-    c.before.if2.true)
+    let w = c in
+    let l = w in
+    let s = l in
+    rw c.unread-then-read-ne0.ensures
+    (parts-refused class_word s.args.text.now s.requires l.list_in-count.ensures w.if-count-gt16.false 4 refl w.word-read.ensures
+    c.if-read-ne0.true)
 
-same-length-3 : tie.Need-same-length-3
+same-length-3 : tie.Need-shape_of-column
 same-length-3 c = search rules
 
-returns-3 : tie.Need-returns-3
+returns-3 : tie.Need-returns
 unfolding class_word_from
 returns-3 c =
-    let w = c.before.before in
-    let l = w.before.before.before.before.before in
-    let s = l.before.before.before.before in
-    parts-read class_word s.args.text.now s.requires l.list-in.ensures w.before.before.if1.false 4 refl w.word.ensures
-    c.if2.false
+    let w = c in
+    let l = w in
+    let s = l in
+    parts-read class_word s.args.text.now s.requires l.list_in-count.ensures w.if-count-gt16.false 4 refl w.word-read.ensures
+    c.if-read-ne0.false
 
-pub class-in-spec : {M : Type 1} → statement M
-class-in-spec =
+pub class_in_spec : {M : Type 1} → statement M
+class_in_spec =
     tie.close
     (tie.spec
     list-in-requires

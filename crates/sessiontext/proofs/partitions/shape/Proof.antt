@@ -20,93 +20,89 @@ use borrow.Author.Rules.{rules}
 use Rattle.sessiontext.proofs.partitions.shape.Statement.{statement}
 use Rattle.sessiontext.proofs.partitions.shape.Tie as tie
 
-line : (c : tie.After-list) → let t = c.before.before.before.before.before.before.before.before.before.before.args.line.now in
-    Own (field "shape=" (list_text (list_in t))) c.list.result c.list.new.1.1.0
+line : (c : tie.After-list-end) → let t = c.args.line.now in
+    Own (field "shape=" (list_text (list_in t))) c.list-end.result c.list-end.new.out
 line c =
-    let i = c.before.before.before.before.before.before.before in
-    let f = not-false _ c.before.before.before.before.if1.false in
-    let front = i.shape-in.ensures.front f in
-    own (rw front at c.list.ensures) (list-fits i.shape-in.ensures (ascii "shape=") f (omega arith)) (omega
+    let i = c in
+    let f = not-false _ c.if-not-read.false in
+    let front = i.shape_in-read.ensures.front f in
+    own (rw front at c.list-end.ensures) (list-fits i.shape_in-read.ensures (ascii "shape=") f (omega arith)) (omega
     arith)
 
-limit : (c : tie.After-degree) → InLimit degree_limit (list_in c.before.before.before.before.before.before.before.before.before.before.before.before.args.line.now)
-limit c = its-limit c.before.before.before.before.before.before.before.before.before.shape-in.ensures (not-false _ c.before.before.before.before.before.before.if1.false)
+limit : (c : tie.After-degree-degree) → InLimit degree_limit (list_in c.args.line.now)
+limit c = its-limit c.shape_in-read.ensures (not-false _ c.if-not-read.false)
 
-degree : (c : tie.After-degree) → to_z w64 (of_z w64 c.degree.result.number)
-    ≡ pos (degree_of (list_in c.before.before.before.before.before.before.before.before.before.before.before.before.args.line.now))
+degree : (c : tie.After-degree-degree) → to_z w64 (of_z w64 c.degree-degree.result.number)
+    ≡ pos (degree_of (list_in c.args.line.now))
 degree c =
     let i = limit c in
-    let word = c.before.before.before.before.before.before.before.before.before.shape-in.ensures.word (not-false _ c.before.before.before.before.before.before.if1.false) in
-    shape-degree (shape-within degree_limit (omega arith) i) (rw word at c.degree.ensures)
+    let word = c.shape_in-read.ensures.word (not-false _ c.if-not-read.false) in
+    shape-degree (shape-within degree_limit (omega arith) i) (rw word at c.degree-degree.ensures)
     ∙ ap (λ ps. pos (degree_of ps)) (shape-kept degree_limit (omega arith) i)
 
-slice-aggregate-shape-in : tie.Need-slice-aggregate-shape-in
+slice-aggregate-shape-in : tie.Need-slice_bounds-shape_in-end
 slice-aggregate-shape-in c = search rules
 
-shape-in-requires : tie.Need-shape-in-requires
+shape-in-requires : tie.Need-shape_in-read-requires
 shape-in-requires c κs = search rules
 
-returns : tie.Need-returns
+returns : tie.Need-returns-then-not-read
 returns c = record {
-  formed = list-unread c.before.before.before.shape-in.ensures (ascii "shape=") (not-true _ c.if1.true);
+  formed = list-unread c.shape_in-read.ensures (ascii "shape=") (not-true _ c.if-not-read.true);
   word = λ b. absurd (false≢true b);
   degree = λ b. absurd (false≢true b);
 }
 
-slice-aggregate-list : tie.Need-slice-aggregate-list
-slice-aggregate-list c = search rules
+array-share-prefix-parts : tie.Need-slice_bounds-parts-end
+array-share-prefix-parts c = c.shape_in-read.ensures.inside (not-false _ c.if-not-read.false)
 
-array-share-prefix-parts : tie.Need-array-share-prefix-parts
-array-share-prefix-parts c = c.before.before.before.before.shape-in.ensures.inside (not-false _ c.before.if1.false)
-
-slice-aggregate-list-2 : tie.Need-slice-aggregate-list-2
+slice-aggregate-list-2 : tie.Need-slice_bounds-list-end-2
 slice-aggregate-list-2 c =
-    let f = not-false _ c.before.before.if1.false in
-    sym (length-take-le _ _ (c.before.before.before.before.before.shape-in.ensures.inside f))
+    let f = not-false _ c.if-not-read.false in
+    sym (length-take-le _ _ (c.shape_in-read.ensures.inside f))
 
-slice-aggregate-list-3 : tie.Need-slice-aggregate-list-3
+slice-aggregate-list-3 : tie.Need-slice_bounds-list-end-3
 slice-aggregate-list-3 c = search rules
 
-list-requires : tie.Need-list-requires
+list-requires : tie.Need-list-end-requires
 list-requires c κs = search rules
 
-degree-requires : tie.Need-degree-requires
+degree-requires : tie.Need-degree-degree-requires
 degree-requires c κs = search rules
 
-array-share-prefix-own : tie.Need-array-share-prefix-own
+array-share-prefix-own : tie.Need-slice_bounds-own-end
 array-share-prefix-own c = (line c.before.before).inside
 
-slice-aggregate-same : tie.Need-slice-aggregate-same
+slice-aggregate-same : tie.Need-slice_bounds-same-end
 slice-aggregate-same c = own-count (line c.before.before.before)
 
 same-requires : tie.Need-same-requires
 same-requires c κs = search rules
 
-cast-t20 : tie.Need-overflow-cast-t20
+cast-t20 : tie.Need-overflow_cast-result
 cast-t20 c =
-    let d = c.before.before.before.before in
-    rw (degree d) (tt, record { fits = omega (arith, (limit d).small) })
+    let d = c in
+    rw (degree d.before.before.before.before) (tt, record { fits = omega (arith, (limit d.before.before.before.before).small) })
 
-returns-2 : tie.Need-returns-2
+returns-2 : tie.Need-returns
 returns-2 c =
-    let i = c.before.before.before.before.before.before.before.before.before.before.before.before.before in
-    let f = not-false _ c.before.before.before.before.before.before.before.before.before.before.if1.false in
+    let i = c in
+    let f = not-false _ c.if-not-read.false in
     let l = (line c.before.before.before.before.before.before).front in
-    let same = c.before.before.same.ensures in
+    let same = c.same.ensures in
     record {
-      formed = list-compared i.shape-in.ensures (ascii "shape=") f (λ b. same.0 b ∙ l, λ e. same.1 (e ∙ sym l));
-      word = λ b. i.shape-in.ensures.word f;
+      formed = list-compared i.shape_in-read.ensures (ascii "shape=") f (λ b. same.0 b ∙ l, λ e. same.1 (e ∙ sym l));
+      word = λ b. i.shape_in-read.ensures.word f;
       degree = λ b. rw (degree c.before.before.before.before) refl;
     }
 
-pub shape-spec : {M : Type 1} → statement M
-shape-spec =
+pub shape_spec : {M : Type 1} → statement M
+shape_spec =
     tie.close
     (tie.spec
     slice-aggregate-shape-in
     shape-in-requires
     returns
-    slice-aggregate-list
     array-share-prefix-parts
     slice-aggregate-list-2
     slice-aggregate-list-3

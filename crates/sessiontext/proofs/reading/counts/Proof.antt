@@ -11,25 +11,22 @@ use borrow.Author.Rules.{rules}
 use Rattle.sessiontext.proofs.reading.counts.Statement.{statement}
 use Rattle.sessiontext.proofs.reading.counts.Tie as tie
 
-line : (c : tie.After-number)
-    → Own (field "lines=" (decimal c.before.before.before.before.args.count)) c.number.result c.number.new.1.1.0
+line : (c : tie.After-number-end)
+    → Own (field "lines=" (decimal c.args.count)) c.number-end.result c.number-end.new.out
 line c =
-    let n = c.before.before.before.before.args.count in
-    own c.number.ensures (omega (arith, number-length (ascii "lines=") n)) (omega arith)
+    let n = c.args.count in
+    own c.number-end.ensures (omega (arith, number-length (ascii "lines=") n)) (omega arith)
 
-slice-aggregate-number : tie.Need-slice-aggregate-number
+slice-aggregate-number : tie.Need-slice_bounds-number-end-2
 slice-aggregate-number c = search rules
 
-slice-aggregate-number-2 : tie.Need-slice-aggregate-number-2
-slice-aggregate-number-2 c = search rules
-
-number-requires : tie.Need-number-requires
+number-requires : tie.Need-number-end-requires
 number-requires c κs = search rules
 
-array-share-prefix-own : tie.Need-array-share-prefix-own
+array-share-prefix-own : tie.Need-slice_bounds-own-end
 array-share-prefix-own c = (line c.before).inside
 
-slice-aggregate-same : tie.Need-slice-aggregate-same
+slice-aggregate-same : tie.Need-slice_bounds-same-end
 slice-aggregate-same c = own-count (line c.before.before)
 
 same-requires : tie.Need-same-requires
@@ -39,15 +36,14 @@ returns : tie.Need-returns
 returns c =
     let l = (line c.before.before.before).front in
     let ask = c.same.ensures in
-    let count = field "lines=" (decimal c.before.before.before.before.before.before.before.args.count) in
+    let count = field "lines=" (decimal c.args.count) in
     same_test _ _ (λ b. same-is (ask.0 b ∙ l)) (λ e. ask.1 (same_lists _ count e ∙ sym l))
 
-pub counts-spec : {M : Type 1} → statement M
-counts-spec =
+pub counts_spec : {M : Type 1} → statement M
+counts_spec =
     tie.close
     (tie.spec
     slice-aggregate-number
-    slice-aggregate-number-2
     number-requires
     array-share-prefix-own
     slice-aggregate-same

@@ -7,54 +7,54 @@ use borrow.Author.Rules.{rules}
 use Rattle.sessiontext.proofs.straight.line_at.Statement.{statement}
 use Rattle.sessiontext.proofs.straight.line_at.Tie as tie
 
-front-at-requires : tie.Need-front-at-requires
+front-at-requires : tie.Need-front_at-front-requires
 front-at-requires c κs = search rules
 
-no-line-requires : tie.Need-no-line-requires
+no-line-requires : tie.Need-no_line-requires
 no-line-requires c κs = search rules
 
-returns : tie.Need-returns
+returns : tie.Need-returns-then-not-front
 returns c = λ b. absurd (false≢true (sym c.no_line.ensures ∙ b))
 
-add-shape-at : tie.Need-overflow-add-shape-at
+add-shape-at : tie.Need-overflow_add-at
 add-shape-at c = search rules
 
-shape-at-requires : tie.Need-shape-at-requires
-shape-at-requires c κs = (c.before.before.Front-at.ensures (not-false _ c.if1.false)).fits
+shape-at-requires : tie.Need-shape_at-shape-requires
+shape-at-requires c κs = (c.front_at-front.ensures (not-false _ c.if-not-front.false)).fits
 
-no-line-requires-2 : tie.Need-no-line-requires-2
+no-line-requires-2 : tie.Need-no_line-requires-then-not-shape
 no-line-requires-2 c κs = search rules
 
-returns-2 : tie.Need-returns-2
-returns-2 c = λ b. absurd (false≢true (sym c.no-line2.ensures ∙ b))
+returns-2 : tie.Need-returns-then-not-shape
+returns-2 c = λ b. absurd (false≢true (sym c.no_line-then-not-shape.ensures ∙ b))
 
-class-at-requires : tie.Need-class-at-requires
-class-at-requires c κs = (c.before.before.shape_at.ensures (not-false _ c.if2.false)).stands.fits
+class-at-requires : tie.Need-class_at-class-requires
+class-at-requires c κs = (c.shape_at-shape.ensures (not-false _ c.if-not-shape.false)).stands.fits
 
-no-line-requires-3 : tie.Need-no-line-requires-3
+no-line-requires-3 : tie.Need-no_line-requires-then-not-class
 no-line-requires-3 c κs = search rules
 
-returns-3 : tie.Need-returns-3
-returns-3 c = λ b. absurd (false≢true (sym c.no-line3.ensures ∙ b))
+returns-3 : tie.Need-returns-then-not-class
+returns-3 c = λ b. absurd (false≢true (sym c.no_line-then-not-class.ensures ∙ b))
 
 word-requires : tie.Need-word-requires
 word-requires c κs = search rules
 
-returns-4 : tie.Need-returns-4
+returns-4 : tie.Need-returns
 returns-4 c =
-    let e3 = c.before in
-    let k = e3.before.before in
-    let e2 = k.before in
-    let s = e2.before.before in
-    let e1 = s.before in
-    let f = e1.before.before in
-    λ b. line-stands f.before.before.requires f.Front-at.result.minus
-    (f.Front-at.ensures (not-false _ e1.if1.false))
-    (s.shape_at.ensures (not-false _ e2.if2.false)) (k.class-at.ensures (not-false _ e3.if3.false))
+    let e3 = c in
+    let k = e3 in
+    let e2 = k in
+    let s = e2 in
+    let e1 = s in
+    let f = e1 in
+    λ b. line-stands f.requires f.front_at-front.result.minus
+    (f.front_at-front.ensures (not-false _ e1.if-not-front.false))
+    (s.shape_at-shape.ensures (not-false _ e2.if-not-shape.false)) (k.class_at-class.ensures (not-false _ e3.if-not-class.false))
     c.word.ensures
 
-pub line-at-spec : {M : Type 1} → statement M
-line-at-spec =
+pub line_at_spec : {M : Type 1} → statement M
+line_at_spec =
     tie.close
     (tie.spec
     front-at-requires

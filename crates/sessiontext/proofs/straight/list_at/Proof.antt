@@ -11,121 +11,121 @@ use borrow.Author.Rules.{rules}
 use Rattle.sessiontext.proofs.straight.list_at.Statement.{statement}
 use Rattle.sessiontext.proofs.straight.list_at.Tie as tie
 
-abbrev invariant-loop : tie.invariant-loop
-invariant-loop text at stop column₀ count₀ place₀ column count place = Listing text at column₀ count place column
+abbrev invariant-loop-count : tie.invariant-loop-count
+invariant-loop-count text at stop column₀ count₀ place₀ column count place = Listing text at column₀ count place column
 
-abbrev decreases-loop : tie.decreases-loop
-decreases-loop text at stop column₀ count₀ place₀ column count place = length column₀ - count
+abbrev decreases-loop-count : tie.decreases-loop-count
+decreases-loop-count text at stop column₀ count₀ place₀ column count place = length column₀ - count
 
-part : (c : tie.Else1 invariant-loop decreases-loop) → let p = c.before.before in
-    Stands (decimal p.part_at.result.part) p.before.before.before.before.before.args.text.now
-    p.before.before.loop.place p.part_at.result.end
-part c = c.before.before.part_at.ensures c.if1.false
+part : (c : tie.Else-read-eq0 invariant-loop-count decreases-loop-count) → let p = c in
+    Stands (decimal p.part_at-read.result.part) p.args.text.now
+    p.loop-count.place p.part_at-read.result.end
+part c = c.part_at-read.ensures c.if-read-eq0.false
 
-kept : (c : tie.Else1 invariant-loop decreases-loop) → let l = c.before.before.before.before in
-    length (set l.loop.column l.loop.count c.before.before.part_at.result.part)
-    ≡ length l.before.before.before.args.column.now
+kept : (c : tie.Else-read-eq0 invariant-loop-count decreases-loop-count) → let l = c in
+    length (set l.loop-count.column l.loop-count.count c.part_at-read.result.part)
+    ≡ length l.args.column.now
 kept c =
-    let l = c.before.before.before.before in
-    length-set l.loop.column l.loop.count c.before.before.part_at.result.part ∙ l.loop.invariant.same
+    let l = c in
+    length-set l.loop-count.column l.loop-count.count c.part_at-read.result.part ∙ l.loop-count.invariant.same
 
-stopped : (c : tie.Then2 invariant-loop decreases-loop) → let p = c.before.before.before.before in
-    let l = p.before.before in
-    Stands (list_text (take (l.loop.count + 1) (set l.loop.column l.loop.count p.part_at.result.part))
-    ++ l.before.before.before.args.stop ∷ []) l.before.before.before.args.text.now
-    l.before.before.before.args.at (p.part_at.result.end + 1)
+stopped : (c : tie.Then-byte-stop invariant-loop-count decreases-loop-count) → let p = c in
+    let l = p in
+    Stands (list_text (take (l.loop-count.count + 1) (set l.loop-count.column l.loop-count.count p.part_at-read.result.part))
+    ++ l.args.stop ∷ []) l.args.text.now
+    l.args.at (p.part_at-read.result.end + 1)
 stopped c =
-    let b = c.before in
-    let l = b.before.before.before.before in
-    listing-stop l.before.loop.invariant l.loop-test.true _ (part b.before)
-    (sym c.if2.true ∙ b.byte_at.ensures)
-    l.before.before.before.before.requires.1
+    let b = c in
+    let l = b in
+    listing-stop l.loop-count.invariant l.loop-count-test.true _ (part b.before.before)
+    (sym c.if-byte-stop.true ∙ b.byte_at-byte.ensures)
+    l.requires.1
 
-passed : (c : tie.Else3 invariant-loop decreases-loop) → let p = c.before.before.before.before.before in
-    let l = p.before.before in
-    Listing l.before.before.before.args.text.now l.before.before.before.args.at
-    l.before.before.before.args.column.now (l.loop.count + 1) (p.part_at.result.end + 1)
-    (set l.loop.column l.loop.count p.part_at.result.part)
+passed : (c : tie.Else-byte-ne44 invariant-loop-count decreases-loop-count) → let p = c in
+    let l = p in
+    Listing l.args.text.now l.args.at
+    l.args.column.now (l.loop-count.count + 1) (p.part_at-read.result.end + 1)
+    (set l.loop-count.column l.loop-count.count p.part_at-read.result.part)
 passed c =
-    let b = c.before.before in
-    let l = b.before.before.before.before in
-    listing-next l.before.loop.invariant l.loop-test.true _ (part b.before) b.byte_at.ensures c.if3.false
+    let b = c in
+    let l = b in
+    listing-next l.loop-count.invariant l.loop-count-test.true _ (part b.before.before.before) b.byte_at-byte.ensures c.if-byte-ne44.false
 
-loop-holds : tie.Need-loop-init invariant-loop decreases-loop
-loop-holds c = listing_none _ c.before.before.requires.0
+loop-holds : tie.Need-loop-count-init invariant-loop-count decreases-loop-count
+loop-holds c = listing_none _ c.requires.0
 
-part-at-requires : tie.Need-part-at-requires invariant-loop decreases-loop
-part-at-requires c κs = c.before.loop.invariant.stands.fits
+part-at-requires : tie.Need-part_at-read-requires invariant-loop-count decreases-loop-count
+part-at-requires c κs = c.loop-count.invariant.stands.fits
 
-no-list-requires : tie.Need-no-list-requires invariant-loop decreases-loop
+no-list-requires : tie.Need-no_list-requires invariant-loop-count decreases-loop-count
 no-list-requires c κs = search rules
 
-same_length : tie.Need-same-length invariant-loop decreases-loop
-same_length c = c.before.before.before.before.before.loop.invariant.same
+same_length : tie.Need-shape_of-column-then-read-eq0 invariant-loop-count decreases-loop-count
+same_length c = c.loop-count.invariant.same
 
-returns : tie.Need-returns invariant-loop decreases-loop
-returns c = no-list c.no-list.ensures
+returns : tie.Need-returns-then-read-eq0 invariant-loop-count decreases-loop-count
+returns c = no-list c.no_list.ensures
 
-slice-write-column : tie.Need-slice-write-column invariant-loop decreases-loop
+slice-write-column : tie.Need-bounds-column-count invariant-loop-count decreases-loop-count
 slice-write-column c = search rules
 
-add-count : tie.Need-overflow-add-count invariant-loop decreases-loop
+add-count : tie.Need-overflow_add-count invariant-loop-count decreases-loop-count
 add-count c =
-    let i = c.before.before.before in
-    record { fits = omega (arith, i.loop-test.true, i.before.loop.invariant.same) }
+    let i = c in
+    record { fits = omega (arith, i.loop-count-test.true, i.loop-count.invariant.same) }
 
-byte-at-requires : tie.Need-byte-at-requires invariant-loop decreases-loop
+byte-at-requires : tie.Need-byte_at-byte-requires invariant-loop-count decreases-loop-count
 byte-at-requires c κs = search rules
 
-add-t13 : tie.Need-overflow-add-t13 invariant-loop decreases-loop
-add-t13 c = record { fits = omega (arith, (stopped c).ranges) }
+add-t13 : tie.Need-overflow_add-result invariant-loop-count decreases-loop-count
+add-t13 c = record { fits = omega (arith, (stopped c).fits) }
 
-same-length-2 : tie.Need-same-length-2 invariant-loop decreases-loop
+same-length-2 : tie.Need-shape_of-column-then-byte-stop invariant-loop-count decreases-loop-count
 same-length-2 c = kept c.before.before
 
-returns-2 : tie.Need-returns-2 invariant-loop decreases-loop
+returns-2 : tie.Need-returns-then-byte-stop invariant-loop-count decreases-loop-count
 returns-2 c =
-    let i = c.before.before.before.before.before in
+    let i = c in
     record {
-      inside = λ b. omega (arith, kept c.before.before, i.loop-test.true, i.before.loop.invariant.same);
+      inside = λ b. omega (arith, kept c.before.before, i.loop-count-test.true, i.loop-count.invariant.same);
       stands = λ b. stopped c;
     }
 
-no-list-requires-2 : tie.Need-no-list-requires-2 invariant-loop decreases-loop
+no-list-requires-2 : tie.Need-no_list-requires-then-byte-ne44 invariant-loop-count decreases-loop-count
 no-list-requires-2 c κs = search rules
 
-same-length-3 : tie.Need-same-length-3 invariant-loop decreases-loop
+same-length-3 : tie.Need-shape_of-column-then-byte-ne44 invariant-loop-count decreases-loop-count
 same-length-3 c = kept c.before.before.before.before
 
-returns-3 : tie.Need-returns-3 invariant-loop decreases-loop
-returns-3 c = no-list c.no-list2.ensures
+returns-3 : tie.Need-returns-then-byte-ne44 invariant-loop-count decreases-loop-count
+returns-3 c = no-list c.no_list-then-byte-ne44.ensures
 
-add-place : tie.Need-overflow-add-place invariant-loop decreases-loop
-add-place c = record { fits = omega (arith, (passed c).stands.ranges) }
+add-place : tie.Need-overflow_add-place invariant-loop-count decreases-loop-count
+add-place c = record { fits = omega (arith, (passed c).stands.fits) }
 
-loop-less : tie.Need-loop-smaller invariant-loop decreases-loop
+loop-less : tie.Need-loop-count-smaller invariant-loop-count decreases-loop-count
 loop-less c =
-    let i = c.before.before.before.before.before.before in
-    omega (arith, i.loop-test.true, i.before.loop.invariant.same)
+    let i = c in
+    omega (arith, i.loop-count-test.true, i.loop-count.invariant.same)
 
-loop-again : tie.Need-loop-preserved invariant-loop decreases-loop
+loop-again : tie.Need-loop-count-preserved invariant-loop-count decreases-loop-count
 loop-again c = passed c
 
-no-list-requires-3 : tie.Need-no-list-requires-3 invariant-loop decreases-loop
+no-list-requires-3 : tie.Need-no_list-requires-2 invariant-loop-count decreases-loop-count
 no-list-requires-3 c κs = search rules
 
-same-length-4 : tie.Need-same-length-4 invariant-loop decreases-loop
-same-length-4 c = c.before.before.loop.invariant.same
+same-length-4 : tie.Need-shape_of-column invariant-loop-count decreases-loop-count
+same-length-4 c = c.loop-count.invariant.same
 
-returns-4 : tie.Need-returns-4 invariant-loop decreases-loop
-returns-4 c = no-list c.no-list3.ensures
+returns-4 : tie.Need-returns invariant-loop-count decreases-loop-count
+returns-4 c = no-list c.no_list-2.ensures
 
-pub list-at-spec : {M : Type 1} → statement M
-list-at-spec =
+pub list_at_spec : {M : Type 1} → statement M
+list_at_spec =
     tie.close
     (tie.spec
-    invariant-loop
-    decreases-loop
+    invariant-loop-count
+    decreases-loop-count
     loop-holds
     part-at-requires
     no-list-requires

@@ -10,38 +10,38 @@ use borrow.Author.Rules.{rules}
 use Rattle.sessiontext.proofs.straight.shape_at.Statement.{statement}
 use Rattle.sessiontext.proofs.straight.shape_at.Tie as tie
 
-slice-aggregate-list-at : tie.Need-slice-aggregate-list-at
+slice-aggregate-list-at : tie.Need-slice_bounds-list_at-end
 slice-aggregate-list-at c = search rules
 
-list-at-requires : tie.Need-list-at-requires
+list-at-requires : tie.Need-list_at-read-requires
 list-at-requires c κs = search rules
 
-no-word-requires : tie.Need-no-word-requires
+no-word-requires : tie.Need-no_word-requires
 no-word-requires c κs = search rules
 
-returns : tie.Need-returns
+returns : tie.Need-returns-then-not-read
 returns c = λ b. absurd (false≢true (sym c.no_word.ensures ∙ b))
 
-array-share-prefix-rows : tie.Need-array-share-prefix-rows
-array-share-prefix-rows c = c.before.before.before.list_at.ensures.inside (not-false _ c.if1.false)
+array-share-prefix-rows : tie.Need-slice_bounds-rows-end
+array-share-prefix-rows c = c.list_at-read.ensures.inside (not-false _ c.if-not-read.false)
 
-slice-aggregate-word : tie.Need-slice-aggregate-word
+slice-aggregate-word : tie.Need-slice_bounds-word-end
 slice-aggregate-word c =
-    let l = c.before.before.before.before in
-    sym (length-take-le _ _ (l.list_at.ensures.inside (not-false _ c.before.if1.false)))
+    let l = c in
+    sym (length-take-le _ _ (l.list_at-read.ensures.inside (not-false _ c.if-not-read.false)))
 
-word-requires : tie.Need-word-requires
+word-requires : tie.Need-word-shape-requires
 word-requires c κs = search rules
 
-returns-2 : tie.Need-returns-2
+returns-2 : tie.Need-returns
 unfolding shape_word_from
 returns-2 c =
-    let l = c.before.before.before.before.before.before in
-    λ b. word_stands shape_word 2 refl l.list_at.ensures (not-false _ c.before.before.before.if1.false)
-    c.before.word.ensures (eqb-true _ _ b)
+    let l = c in
+    λ b. word_stands shape_word 2 refl l.list_at-read.ensures (not-false _ c.if-not-read.false)
+    c.word-shape.ensures (eqb-true _ _ b)
 
-pub shape-at-spec : {M : Type 1} → statement M
-shape-at-spec =
+pub shape_at_spec : {M : Type 1} → statement M
+shape_at_spec =
     tie.close
     (tie.spec
     slice-aggregate-list-at

@@ -9,73 +9,73 @@ use borrow.Author.Rules.{rules}
 use Rattle.sessiontext.proofs.waiting.judge.Statement.{statement}
 use Rattle.sessiontext.proofs.waiting.judge.Tie as tie
 
-abbrev invariant-loop : tie.invariant-loop
-invariant-loop text start at₀ count₀ left₀ at count left = Judged text start left₀ at count left
+abbrev invariant-loop-at : tie.invariant-loop-at
+invariant-loop-at text start at₀ count₀ left₀ at count left = Judged text start left₀ at count left
 
-abbrev decreases-loop : tie.decreases-loop
-decreases-loop text start at₀ count₀ left₀ at count left = length text - at
+abbrev decreases-loop-at : tie.decreases-loop-at
+decreases-loop-at text start at₀ count₀ left₀ at count left = length text - at
 
-next-line : (c : tie.After-line-at invariant-loop decreases-loop)
-    → Next c.before.before.before.before.args.text.now c.before.before.loop.at c.line_at_lem.result.end
-next-line c = next _ _ _ c.line_at_lem.ensures.ends
+next-line : (c : tie.After-line_at-read invariant-loop-at decreases-loop-at)
+    → Next c.args.text.now c.loop-at.at c.line_at-read.result.end
+next-line c = next _ _ _ c.line_at-read.ensures.ends
 
-judged : (c : tie.After-spend invariant-loop decreases-loop) → let r = c.before.before.before.before in
-    let s = r.before.before.before.before in
-    Judged s.args.text.now s.args.start s.args.budget r.line_at_lem.result.end
-    (r.before.before.loop.count + 1)
-    c.spend.result
+judged : (c : tie.After-spend-left invariant-loop-at decreases-loop-at) → let r = c in
+    let s = r in
+    Judged s.args.text.now s.args.start s.args.budget r.line_at-read.result.end
+    (r.loop-at.count + 1)
+    c.spend-left.result
 judged c =
-    let i = c.before.before in
-    let r = i.before.before in
-    judged-next _ _ _ r.before.before.loop.invariant r.before.loop-test.true r.line_at_lem.ensures
-    (not-false _ i.if1.false) c.spend.ensures
+    let i = c in
+    let r = i in
+    judged-next _ _ _ r.loop-at.invariant r.loop-at-test.true r.line_at-read.ensures
+    (not-false _ i.if-not-read.false) c.spend-left.ensures
 
-loop-holds : tie.Need-loop-init invariant-loop decreases-loop
-loop-holds c = judged-none _ _ _ c.before.requires.0 c.before.requires.1
+loop-holds : tie.Need-loop-at-init invariant-loop-at decreases-loop-at
+loop-holds c = judged-none _ _ _ c.requires.0 c.requires.1
 
-line-at-requires : tie.Need-line-at-requires invariant-loop decreases-loop
-line-at-requires c κs = c.before.loop.invariant.fits
+line-at-requires : tie.Need-line_at-read-requires invariant-loop-at decreases-loop-at
+line-at-requires c κs = c.loop-at.invariant.fits
 
-add-t11 : tie.Need-overflow-add-t11 invariant-loop decreases-loop
+add-t11 : tie.Need-overflow_add-result invariant-loop-at decreases-loop-at
 add-t11 c =
-    let l = c.before.before.before.before in
-    record { fits = omega (arith, l.loop.invariant.far, l.loop.invariant.fits) }
+    let l = c in
+    record { fits = omega (arith, l.loop-at.invariant.far, l.loop-at.invariant.fits) }
 
-returns : tie.Need-returns invariant-loop decreases-loop
+returns : tie.Need-returns-then-not-read invariant-loop-at decreases-loop-at
 returns c =
-    let r = c.before.before in
-    judged-fault _ _ _ r.before.before.loop.invariant r.before.loop-test.true r.line_at_lem.ensures
-    (not-true _ c.if1.true)
+    let r = c in
+    judged-fault _ _ _ r.loop-at.invariant r.loop-at-test.true r.line_at-read.ensures
+    (not-true _ c.if-not-read.true)
 
-slice-aggregate-spend : tie.Need-slice-aggregate-spend invariant-loop decreases-loop
+slice-aggregate-spend : tie.Need-slice_bounds-spend-end invariant-loop-at decreases-loop-at
 slice-aggregate-spend c = search rules
 
-spend-requires : tie.Need-spend-requires invariant-loop decreases-loop
+spend-requires : tie.Need-spend-left-requires invariant-loop-at decreases-loop-at
 spend-requires c κs = search rules
 
-add-count : tie.Need-overflow-add-count invariant-loop decreases-loop
+add-count : tie.Need-overflow_add-count invariant-loop-at decreases-loop-at
 add-count c =
-    let l = c.before.before.before.before.before.before in
-    record { fits = omega (arith, l.loop.invariant.far, l.loop.invariant.fits) }
+    let l = c in
+    record { fits = omega (arith, l.loop-at.invariant.far, l.loop-at.invariant.fits) }
 
-loop-less : tie.Need-loop-smaller invariant-loop decreases-loop
+loop-less : tie.Need-loop-at-smaller invariant-loop-at decreases-loop-at
 loop-less c =
     let n = judged c in
-    let r = c.before.before.before.before in
-    omega (arith, n.fits, (next-line r).later r.before.loop-test.true)
+    let r = c in
+    omega (arith, n.fits, (next-line r.before.before.before.before).later r.loop-at-test.true)
 
-loop-again : tie.Need-loop-preserved invariant-loop decreases-loop
+loop-again : tie.Need-loop-at-preserved invariant-loop-at decreases-loop-at
 loop-again c = judged c
 
-returns-2 : tie.Need-returns-2 invariant-loop decreases-loop
-returns-2 c = judged-all _ _ _ c.before.loop.invariant c.loop-test.false
+returns-2 : tie.Need-returns invariant-loop-at decreases-loop-at
+returns-2 c = judged-all _ _ _ c.loop-at.invariant c.loop-at-test.false
 
-pub judge-spec : {M : Type 1} → statement M
-judge-spec =
+pub judge_spec : {M : Type 1} → statement M
+judge_spec =
     tie.close
     (tie.spec
-    invariant-loop
-    decreases-loop
+    invariant-loop-at
+    decreases-loop-at
     loop-holds
     line-at-requires
     add-t11

@@ -6,35 +6,35 @@ use borrow.Author.Rules.{rules}
 use Rattle.sessiontext.proofs.waiting.line_at.Statement.{statement}
 use Rattle.sessiontext.proofs.waiting.line_at.Tie as tie
 
-ends : (c : tie.After-line-end) → Next c.before.before.before.before.args.text.now c.before.before.before.before.args.at c.line-end.result
-ends c = next _ _ _ c.line-end.ensures
+ends : (c : tie.After-line_end-end) → Next c.args.text.now c.args.at c.line_end-end.result
+ends c = next _ _ _ c.line_end-end.ensures
 
-line-at-requires : tie.Need-line-at-requires
+line-at-requires : tie.Need-line_at-read-requires
 line-at-requires c κs = search rules
 
-returns : tie.Need-returns
-returns c = straight-read (c.before.line_at_lem.ensures c.if1.true) c.if1.true
+returns : tie.Need-returns-then-read
+returns c = straight-read (c.line_at-read.ensures c.if-read.true) c.if-read.true
 
-line-end-requires : tie.Need-line-end-requires
+line-end-requires : tie.Need-line_end-end-requires
 line-end-requires c κs = search rules
 
-sub-waiting : tie.Need-overflow-sub-waiting
+sub-waiting : tie.Need-slice_bounds-waiting-count
 sub-waiting c = (ends c).from
 
-part-waiting-start : tie.Need-slice-bounds-waiting-start
+part-waiting-start : tie.Need-slice_bounds-waiting-start
 part-waiting-start c = (ends c).from
 
-part-waiting-end : tie.Need-slice-bounds-waiting-end
-part-waiting-end c = (ends c).ranges c.before.before.before.before.requires
+part-waiting-end : tie.Need-slice_bounds-waiting-end
+part-waiting-end c = (ends c).fits c.requires
 
-waiting-requires : tie.Need-waiting-requires
+waiting-requires : tie.Need-waiting-line-requires
 waiting-requires c κs = search rules
 
-returns-2 : tie.Need-returns-2
-returns-2 c = longer-read c.before.before.line-end.ensures c.waiting.ensures
+returns-2 : tie.Need-returns
+returns-2 c = longer-read c.line_end-end.ensures c.waiting-line.ensures
 
-pub line-at-spec : {M : Type 1} → statement M
-line-at-spec =
+pub line_at_spec : {M : Type 1} → statement M
+line_at_spec =
     tie.close
     (tie.spec
     line-at-requires

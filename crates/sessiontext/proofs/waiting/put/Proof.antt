@@ -7,50 +7,50 @@ use borrow.Author.Rules.{rules}
 use Rattle.sessiontext.proofs.waiting.put.Statement.{statement}
 use Rattle.sessiontext.proofs.waiting.put.Tie as tie
 
-abbrev invariant-loop : tie.invariant-loop
-invariant-loop text start page₀ at₀ count₀ page at count = Put text start page₀ at count page
+abbrev invariant-loop-at : tie.invariant-loop-at
+invariant-loop-at text start page₀ at₀ count₀ page at count = Put text start page₀ at count page
 
-abbrev decreases-loop : tie.decreases-loop
-decreases-loop text start page₀ at₀ count₀ page at count = length text - at
+abbrev decreases-loop-at : tie.decreases-loop-at
+decreases-loop-at text start page₀ at₀ count₀ page at count = length text - at
 
-loop-holds : tie.Need-loop-init invariant-loop decreases-loop
+loop-holds : tie.Need-loop-at-init invariant-loop-at decreases-loop-at
 loop-holds c =
-    let s = c.before.before in
+    let s = c in
     put-none _ _ _ s.requires.0 s.requires.1.0 s.requires.1.1
 
-line-at-requires : tie.Need-line-at-requires invariant-loop decreases-loop
-line-at-requires c κs = c.before.loop.invariant.fits
+line-at-requires : tie.Need-line_at-read-requires invariant-loop-at decreases-loop-at
+line-at-requires c κs = c.loop-at.invariant.fits
 
-mul-page : tie.Need-overflow-mul-page invariant-loop decreases-loop
+mul-page : tie.Need-offset_bounds-page-count invariant-loop-at decreases-loop-at
 mul-page c = search rules
 
-slice-write-page : tie.Need-slice-write-page invariant-loop decreases-loop
+slice-write-page : tie.Need-bounds-page-count invariant-loop-at decreases-loop-at
 slice-write-page c =
-    put-room _ _ _ c.before.before.loop.invariant c.before.loop-test.true c.line_at_lem.ensures
+    put-room _ _ _ c.loop-at.invariant c.loop-at-test.true c.line_at-read.ensures
 
-add-count : tie.Need-overflow-add-count invariant-loop decreases-loop
+add-count : tie.Need-overflow_add-count invariant-loop-at decreases-loop-at
 add-count c = search rules
 
-loop-less : tie.Need-loop-smaller invariant-loop decreases-loop
+loop-less : tie.Need-loop-at-smaller invariant-loop-at decreases-loop-at
 loop-less c =
-    let n = next _ _ _ c.line_at_lem.ensures.ends in
-    omega (arith, n.later c.before.loop-test.true, n.fits c.before.before.loop.invariant.fits)
+    let n = next _ _ _ c.line_at-read.ensures.ends in
+    omega (arith, n.later c.loop-at-test.true, n.fits c.loop-at.invariant.fits)
 
-loop-again : tie.Need-loop-preserved invariant-loop decreases-loop
-loop-again c = put_next _ _ _ c.before.before.loop.invariant c.before.loop-test.true c.line_at_lem.ensures
+loop-again : tie.Need-loop-at-preserved invariant-loop-at decreases-loop-at
+loop-again c = put_next _ _ _ c.loop-at.invariant c.loop-at-test.true c.line_at-read.ensures
 
-same_length : tie.Need-same-length invariant-loop decreases-loop
-same_length c = c.before.loop.invariant.same
+same_length : tie.Need-shape_of-page invariant-loop-at decreases-loop-at
+same_length c = c.loop-at.invariant.same
 
-returns : tie.Need-returns invariant-loop decreases-loop
-returns c = put_all _ _ _ c.before.loop.invariant c.loop-test.false
+returns : tie.Need-returns invariant-loop-at decreases-loop-at
+returns c = put_all _ _ _ c.loop-at.invariant c.loop-at-test.false
 
 pub put_spec : {M : Type 1} → statement M
 put_spec =
     tie.close
     (tie.spec
-    invariant-loop
-    decreases-loop
+    invariant-loop-at
+    decreases-loop-at
     loop-holds
     line-at-requires
     mul-page

@@ -13,87 +13,87 @@ use Rattle.sessiontext.proofs.waiting.word_in.Statement.{statement}
 use Rattle.sessiontext.proofs.waiting.word_in.Tie as tie
 
 -- ---- places: behind the cuts, and where the function began
-abbrev begin : tie.After-past2 → tie.Start
+abbrev begin : tie.After-past-last → tie.Start
 begin c = c.before.before.before.before.before
 
-abbrev signed : tie.After-find3 → tie.After-past2
-signed c = c.before.before
+abbrev signed : tie.After-find → tie.After-past-last
+signed c = c.before
 
-abbrev shaped : tie.After-shape-in → tie.After-past2
+abbrev shaped : tie.After-shape_in-shape → tie.After-past-last
 shaped c = signed c.before.before.before
 
-abbrev classed : tie.After-class-in → tie.After-past2
+abbrev classed : tie.After-class_in-class → tie.After-past-last
 classed c = shaped c.before.before.before.before
 
 -- ---- what is read
-cut : (c : tie.After-past2)
-    → Cuts (begin c).args.line.now c.before.before.before.find.result c.before.before.past.result
-    c.before.find2.result c.past2.result
+cut : (c : tie.After-past-last)
+    → Cuts (begin c).args.line.now c.find-first.result c.past-start.result
+    c.find-second.result c.past-last.result
 cut c =
-    let second = c.before in
-    let start = second.before in
-    cuts _ start.before.find.ensures start.past.ensures second.find2.ensures c.past2.ensures
+    let second = c in
+    let start = second in
+    cuts _ start.find-first.ensures start.past-start.ensures second.find-second.ensures c.past-last.ensures
 
-sign : (c : tie.After-find3)
-    → c.find3.result <? (signed c).before.before.before.find.result ≡ minus_in (begin (signed c)).args.line.now
-sign c = sign_read (cut (signed c)) c.find3.ensures
+sign : (c : tie.After-find)
+    → c.find.result <? (signed c).find-first.result ≡ minus_in (begin (signed c)).args.line.now
+sign c = sign_read (cut (signed c)) c.find.ensures
 
-shape : (c : tie.After-shape-in)
-    → ReadParts shape_word (before 59 (behind 59 (begin (shaped c)).args.line.now)) c.shape-in.result
-    c.shape-in.new.1.0
-shape c = rw (cut (shaped c)).shape at c.shape-in.ensures
+shape : (c : tie.After-shape_in-shape)
+    → ReadParts shape_word (before 59 (behind 59 (begin (shaped c)).args.line.now)) c.shape_in-shape.result
+    c.shape_in-shape.new.column
+shape c = rw (cut (shaped c)).shape at c.shape_in-shape.ensures
 
-class : (c : tie.After-class-in)
-    → ReadParts class_word (behind 59 (behind 59 (begin (classed c)).args.line.now)) c.class-in.result
-    c.class-in.new.1.0
-class c = rw (cut (classed c)).class at c.class-in.ensures
+class : (c : tie.After-class_in-class)
+    → ReadParts class_word (behind 59 (behind 59 (begin (classed c)).args.line.now)) c.class_in-class.result
+    c.class_in-class.new.column
+class c = rw (cut (classed c)).class at c.class_in-class.ensures
 
-find-requires : tie.Need-find-requires
+find-requires : tie.Need-find-first-requires
 find-requires c κs = search rules
 
-past-requires : tie.Need-past-requires
+past-requires : tie.Need-past-start-requires
 past-requires c κs = search rules
 
-find-requires-2 : tie.Need-find-requires-2
+find-requires-2 : tie.Need-find-second-requires
 find-requires-2 c κs = search rules
 
-past-requires-2 : tie.Need-past-requires-2
+past-requires-2 : tie.Need-past-last-requires
 past-requires-2 c κs = search rules
 
-slice-aggregate-find : tie.Need-slice-aggregate-find
-slice-aggregate-find c = sym (length-take-le _ _ (cut c.before).first_fits)
+slice-aggregate-find : tie.Need-slice_bounds-find-end
+slice-aggregate-find c = sym (length-take-le _ _ (cut c).first_fits)
 
-find-requires-3 : tie.Need-find-requires-3
+find-requires-3 : tie.Need-find-requires
 find-requires-3 c κs = search rules
 
-sub-shape-in : tie.Need-overflow-sub-shape-in
+sub-shape-in : tie.Need-slice_bounds-shape_in-count
 sub-shape-in c = search rules
 
-part-shape-in-start : tie.Need-slice-bounds-shape-in-start
+part-shape-in-start : tie.Need-slice_bounds-shape_in-start
 part-shape-in-start c = search rules
 
-part-shape-in-end : tie.Need-slice-bounds-shape-in-end
-part-shape-in-end c = (cut c.before.before).second_fits
+part-shape-in-end : tie.Need-slice_bounds-shape_in-end
+part-shape-in-end c = (cut c.before).second_fits
 
-slice-aggregate-shape-in : tie.Need-slice-aggregate-shape-in
+slice-aggregate-shape-in : tie.Need-slice_bounds-shape_in-end-2
 slice-aggregate-shape-in c = search rules
 
-shape-in-requires : tie.Need-shape-in-requires
+shape-in-requires : tie.Need-shape_in-shape-requires
 shape-in-requires c κs = search rules
 
-sub-class-in : tie.Need-overflow-sub-class-in
+sub-class-in : tie.Need-slice_bounds-class_in-count
 sub-class-in c = search rules
 
-part-class-in-start : tie.Need-slice-bounds-class-in-start
+part-class-in-start : tie.Need-slice_bounds-class_in-start
 part-class-in-start c = search rules
 
-part-class-in-end : tie.Need-slice-bounds-class-in-end
+part-class-in-end : tie.Need-slice_bounds-class_in-end
 part-class-in-end c = search rules
 
-slice-aggregate-class-in : tie.Need-slice-aggregate-class-in
+slice-aggregate-class-in : tie.Need-slice_bounds-class_in-end-2
 slice-aggregate-class-in c = search rules
 
-class-in-requires : tie.Need-class-in-requires
+class-in-requires : tie.Need-class_in-class-requires
 class-in-requires c κs = search rules
 
 both-requires : tie.Need-both-requires
@@ -104,12 +104,12 @@ word-requires c κs = search rules
 
 returns : tie.Need-returns
 returns c =
-    let k = c.before.before.before in
-    let s = k.before.before.before.before in
-    line_word (shape s) (class k) (sign s.before.before.before) c.before.both.ensures c.word.ensures
+    let k = c in
+    let s = k in
+    line_word (shape s.before.before.before.before.before.before.before) (class k.before.before.before) (sign s.before.before.before.before.before.before.before.before.before.before) c.both.ensures c.word.ensures
 
-pub word-in-spec : {M : Type 1} → statement M
-word-in-spec =
+pub word_in_spec : {M : Type 1} → statement M
+word_in_spec =
     tie.close
     (tie.spec
     find-requires

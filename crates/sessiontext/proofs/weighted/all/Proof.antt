@@ -24,105 +24,105 @@ use borrow.Author.Rules.{rules}
 use Rattle.sessiontext.proofs.weighted.all.Statement.{statement}
 use Rattle.sessiontext.proofs.weighted.all.Tie as tie
 
-abbrev invariant-loop : tie.invariant-loop
-invariant-loop lines coefficients out₀ at end₀ i₀ out end i =
+abbrev invariant-loop-i : tie.invariant-loop-i
+invariant-loop-i lines coefficients out₀ at end₀ i₀ out end i =
     (i ≤ length lines)
     × Wrote (joined (line_text_by gathered_form) (take i (alongside lines coefficients))) at out₀ end out
 
-abbrev decreases-loop : tie.decreases-loop
-decreases-loop lines coefficients out₀ at end₀ i₀ out end i = length lines - i
+abbrev decreases-loop-i : tie.decreases-loop-i
+decreases-loop-i lines coefficients out₀ at end₀ i₀ out end i = length lines - i
 
-abbrev begin : tie.At-loop invariant-loop decreases-loop → tie.Start invariant-loop decreases-loop
+abbrev begin : tie.At-loop-i invariant-loop-i decreases-loop-i → tie.Start invariant-loop-i decreases-loop-i
 begin c = c.before.before.before
 
-room : (c : tie.At-loop invariant-loop decreases-loop) → length (begin c).args.out.now ≤ most
+room : (c : tie.At-loop-i invariant-loop-i decreases-loop-i) → length (begin c).args.out.now ≤ most
 room c = omega arith
 
-many : (c : tie.At-loop invariant-loop decreases-loop)
+many : (c : tie.At-loop-i invariant-loop-i decreases-loop-i)
     → let a = (begin c).args in length (alongside a.lines.now a.coefficients.now) ≡ length a.lines.now
 many c = length-alongside (begin c).args.lines.now (begin c).args.coefficients.now (begin c).requires.0
 
-its-line : (c : tie.In-loop invariant-loop decreases-loop) → let a = (begin c.before).args in let i = c.before.loop.i in
+its-line : (c : tie.In-loop-i invariant-loop-i decreases-loop-i) → let a = (begin c.before).args in let i = c.loop-i.i in
     line_at (alongside a.lines.now a.coefficients.now) i
     ≡ weighted (get_or a.lines.now i 0) (get_or a.coefficients.now i (pos 0))
 its-line c =
     let a = (begin c.before).args in
-    alongside-at a.lines.now a.coefficients.now c.before.loop.i (begin c.before).pre.0
-    c.loop-test.true
+    alongside-at a.lines.now a.coefficients.now c.loop-i.i (begin c.before).requires.0
+    c.loop-i-test.true
 
-storable : (c : tie.In-loop invariant-loop decreases-loop) → let a = (begin c.before).args in let i = c.before.loop.i in
+storable : (c : tie.In-loop-i invariant-loop-i decreases-loop-i) → let a = (begin c.before).args in let i = c.loop-i.i in
     StorableLineBy gathered-faithful degree_limit
     (weighted (get_or a.lines.now i 0) (get_or a.coefficients.now i (pos 0)))
 storable c =
     let a = (begin c.before).args in
-    rw (its-line c) at (each_at (StorableLineBy gathered-faithful degree_limit) (alongside a.lines.now a.coefficients.now) (line_of 0) c.before.loop.i (begin c.before).pre.1 (omega (
+    rw (its-line c) at (each_at (StorableLineBy gathered-faithful degree_limit) (alongside a.lines.now a.coefficients.now) (line_of 0) c.loop-i.i (begin c.before).requires.1 (omega (
       arith,
       many c.before,
-      c.loop-test.true,
+      c.loop-i-test.true,
     )))
 
 -- the coefficient as it is handed on
-handed : (c : tie.In-loop invariant-loop decreases-loop)
-    → let z = get_or (begin c.before).args.coefficients.now c.before.loop.i (pos 0) in to_z w64 (of_z w64 z) ≡ z
+handed : (c : tie.In-loop-i invariant-loop-i decreases-loop-i)
+    → let z = get_or (begin c.before).args.coefficients.now c.loop-i.i (pos 0) in to_z w64 (of_z w64 z) ≡ z
 unfolding gathered-faithful
 handed c = to_z-of_z {w = w64} (held_fits _ (storable c).kept)
 
-loop-holds : tie.Need-loop-init invariant-loop decreases-loop
+loop-holds : tie.Need-loop-i-init invariant-loop-i decreases-loop-i
 loop-holds c = (omega arith, wrote_none _ _ (omega arith))
 
-mul-line : tie.Need-overflow-mul-line invariant-loop decreases-loop
+mul-line : tie.Need-offset_bounds-lines-i invariant-loop-i decreases-loop-i
 mul-line c = search rules
 
-shared-slice-read-line : tie.Need-shared-slice-read-line invariant-loop decreases-loop
+shared-slice-read-line : tie.Need-bounds-lines-i invariant-loop-i decreases-loop-i
 shared-slice-read-line c = search rules
 
-mul-line-2 : tie.Need-overflow-mul-line-2 invariant-loop decreases-loop
+mul-line-2 : tie.Need-offset_bounds-coefficients-i invariant-loop-i decreases-loop-i
 mul-line-2 c = search rules
 
-shared-slice-copy-out-line : tie.Need-shared-slice-copy-out-line invariant-loop decreases-loop
-shared-slice-copy-out-line c = omega (arith, c.before.loop-test.true, (begin c.before.before).pre.0)
+shared-slice-copy-out-line : tie.Need-bounds-coefficients-i invariant-loop-i decreases-loop-i
+shared-slice-copy-out-line c = omega (arith, c.loop-i-test.true, (begin c.before.before).requires.0)
 
-line-requires : tie.Need-line-requires invariant-loop decreases-loop
+line-requires : tie.Need-line-end-requires invariant-loop-i decreases-loop-i
 line-requires c κs =
-    let l = c.before.before.before in
-    rw (handed l) (storable l)
+    let l = c in
+    rw (handed l.before.before.before) (storable l.before.before.before)
 
-add-i : tie.Need-overflow-add-i invariant-loop decreases-loop
+add-i : tie.Need-overflow_add-i invariant-loop-i decreases-loop-i
 add-i c = search rules
 
-loop-less : tie.Need-loop-smaller invariant-loop decreases-loop
+loop-less : tie.Need-loop-i-smaller invariant-loop-i decreases-loop-i
 loop-less c = search rules
 
-loop-again : tie.Need-loop-preserved invariant-loop decreases-loop
+loop-again : tie.Need-loop-i-preserved invariant-loop-i decreases-loop-i
 loop-again c =
-    let k = c.before.before in
-    let l = k.before.before.before.before in
-    let a = (begin l.before).args in
+    let k = c in
+    let l = k in
+    let a = (begin l.before.before.before.before.before.before.before).args in
     let next = joined-next (line_text_by gathered_form) (alongside a.lines.now a.coefficients.now) (line_of 0)
-    l.before.loop.i (omega (arith, many l.before, l.loop-test.true)) in (
+    l.loop-i.i (omega (arith, many l.before.before.before.before.before.before.before, l.loop-i-test.true)) in (
       omega arith,
-      rw (add-one, next, its-line l)
-          (wrote_then l.before.loop.invariant.1 (room l.before) (rw (handed l) at k.line.ensures)),
+      rw (add-one, next, its-line l.before.before.before.before.before.before)
+          (wrote_then l.loop-i.invariant.1 (room l.before.before.before.before.before.before.before) (rw (handed l.before.before.before.before.before.before) at k.line-end.ensures)),
     )
 
-same_length : tie.Need-same-length invariant-loop decreases-loop
-same_length c = wrote-length c.before.loop.invariant.1
+same_length : tie.Need-shape_of-out invariant-loop-i decreases-loop-i
+same_length c = wrote-length c.loop-i.invariant.1
 
-returns : tie.Need-returns invariant-loop decreases-loop
+returns : tie.Need-returns invariant-loop-i decreases-loop-i
 returns c =
     let a = (begin c.before).args in
-    rw (take_all c.before.loop.i (alongside a.lines.now a.coefficients.now) (omega (
+    rw (take_all c.loop-i.i (alongside a.lines.now a.coefficients.now) (omega (
       arith,
       many c.before,
-      c.loop-test.false,
-    ))) at c.before.loop.invariant.1
+      c.loop-i-test.false,
+    ))) at c.loop-i.invariant.1
 
-pub all-spec : {M : Type 1} → statement M
-all-spec =
+pub all_spec : {M : Type 1} → statement M
+all_spec =
     tie.close
     (tie.spec
-    invariant-loop
-    decreases-loop
+    invariant-loop-i
+    decreases-loop-i
     loop-holds
     mul-line
     shared-slice-read-line

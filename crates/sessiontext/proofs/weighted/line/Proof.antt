@@ -17,46 +17,42 @@ use Rattle.sessiontext.proofs.weighted.line.Tie as tie
 clear : (c : tie.Start) → let x = c.args.line in x / 2 ^ 32 % 2 ^ 31 ≡ x / 2 ^ 32
 clear c = omega (arith, c.requires.shape.good.below)
 
-slice-aggregate-put : tie.Need-slice-aggregate-put
-slice-aggregate-put c = search rules
-
-put-requires : tie.Need-put-requires
+put-requires : tie.Need-put-end-requires
 put-requires c κs = search rules
 
-integer-requires : tie.Need-integer-requires
+integer-requires : tie.Need-integer-end-requires
 integer-requires c κs = search rules
 
-words-behind-requires : tie.Need-words-behind-requires
+words-behind-requires : tie.Need-words_behind-requires
 words-behind-requires c κs =
-    let s = c.before.before.before.before.before.before.before.before.before.before.before in
-    (rw (clear s) s.requires.shape, s.requires.class)
+    let s = c in
+    (rw (clear s.before.before.before.before.before.before.before.before.before.before.before.before) s.requires.shape, s.requires.class)
 
-same_length : tie.Need-same-length
+same_length : tie.Need-shape_of-out
 same_length c = search rules
 
 -- the coefficient as it is handed on
 handed : (c : tie.Start) → to_z w64 (of_z w64 c.args.coefficient) ≡ c.args.coefficient
-handed c = to_z-of_z (search rules)
+handed c = to_z-of_z {w = w64} (search rules)
 
-room : (c : tie.After-put) → length c.before.before.before.before.args.out.now ≤ most
+room : (c : tie.After-put-end) → length c.args.out.now ≤ most
 room c = omega arith
 
 returns : tie.Need-returns
 returns c =
-    let rest = c.before.before in
-    let weight = rest.before.before.before.before in
-    let name = weight.before.before.before.before in
-    let s = name.before.before.before.before in
-    let m = room name in
+    let rest = c in
+    let weight = rest in
+    let name = weight in
+    let s = name in
+    let m = room name.before.before.before.before.before.before.before.before.before.before in
     rw (weighted-parts _ _ _)
-    (wrote_then (wrote_then name.put.ensures m (rw (handed s) at weight.integer.ensures)) m
-    (rw (clear s) at rest.words-behind.ensures))
+    (wrote_then (wrote_then name.put-end.ensures m (rw (handed s.before.before.before.before.before.before.before.before.before.before.before.before.before.before.before) at weight.integer-end.ensures)) m
+    (rw (clear s.before.before.before.before.before.before.before.before.before.before.before.before.before.before.before) at rest.words_behind.ensures))
 
-pub line-spec : {M : Type 1} → statement M
-line-spec =
+pub line_spec : {M : Type 1} → statement M
+line_spec =
     tie.close
     (tie.spec
-    slice-aggregate-put
     put-requires
     integer-requires
     words-behind-requires

@@ -12,36 +12,33 @@ use borrow.Author.Rules.{rules}
 use Rattle.sessiontext.proofs.weighted.session.Statement.{statement}
 use Rattle.sessiontext.proofs.weighted.session.Tie as tie
 
-slice-aggregate-put : tie.Need-slice-aggregate-put
-slice-aggregate-put c = search rules
-
-put-requires : tie.Need-put-requires
+put-requires : tie.Need-put-end-requires
 put-requires c κs = search rules
 
-head-requires : tie.Need-head-requires
+head-requires : tie.Need-head-end-requires
 head-requires c κs = search rules
 
 all-requires : tie.Need-all-requires
 all-requires c κs = search rules
 
-same_length : tie.Need-same-length
+same_length : tie.Need-shape_of-out
 same_length c = search rules
 
-room : (c : tie.After-put) → length c.before.before.before.before.before.args.out.now ≤ most
+room : (c : tie.After-put-end) → length c.args.out.now ≤ most
 room c = omega arith
 
 returns : tie.Need-returns
 returns c =
-    let k = c.before.before in
-    let h = k.before.before.before.before in
-    let name = h.before.before.before.before in
-    let start = name.before.before.before.before.before in
-    let m = room name in
+    let k = c in
+    let h = k in
+    let name = h in
+    let start = name in
+    let m = room name.before.before.before.before.before.before.before.before.before.before in
     rw (session-parts gathered_form start.args.slip _, length-alongside _ _ start.requires.0)
-    (wrote_then name.put.ensures m
-    (wrote_then h.head.ensures (omega (arith, m, wrote-length name.put.ensures)) k.all.ensures))
+    (wrote_then name.put-end.ensures m
+    (wrote_then h.head-end.ensures (omega (arith, m, wrote-length name.put-end.ensures)) k.all.ensures))
 
-pub session-spec : {M : Type 1} → statement M
-session-spec =
+pub session_spec : {M : Type 1} → statement M
+session_spec =
     tie.close
-    (tie.spec slice-aggregate-put put-requires head-requires all-requires same_length returns)
+    (tie.spec put-requires head-requires all-requires same_length returns)

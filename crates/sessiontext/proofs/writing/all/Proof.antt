@@ -21,60 +21,60 @@ use Rattle.sessiontext.proofs.writing.all.Tie as tie
 abbrev word_text : ℕ → Text
 word_text x = line_text (line_of x)
 
-abbrev invariant-loop : tie.invariant-loop
-invariant-loop lines out₀ at end₀ i₀ out end i = (i ≤ length lines) × Wrote (joined word_text (take i lines)) at out₀ end out
+abbrev invariant-loop-i : tie.invariant-loop-i
+invariant-loop-i lines out₀ at end₀ i₀ out end i = (i ≤ length lines) × Wrote (joined word_text (take i lines)) at out₀ end out
 
-abbrev decreases-loop : tie.decreases-loop
-decreases-loop lines out₀ at end₀ i₀ out end i = length lines - i
+abbrev decreases-loop-i : tie.decreases-loop-i
+decreases-loop-i lines out₀ at end₀ i₀ out end i = length lines - i
 
-room : (c : tie.At-loop invariant-loop decreases-loop) → length c.before.before.before.args.out.now ≤ most
+room : (c : tie.At-loop-i invariant-loop-i decreases-loop-i) → length c.args.out.now ≤ most
 room c = omega arith
 
-loop-holds : tie.Need-loop-init invariant-loop decreases-loop
+loop-holds : tie.Need-loop-i-init invariant-loop-i decreases-loop-i
 loop-holds c = (omega arith, wrote_none _ _ (omega arith))
 
-mul-line : tie.Need-overflow-mul-line invariant-loop decreases-loop
+mul-line : tie.Need-offset_bounds-lines-i invariant-loop-i decreases-loop-i
 mul-line c = search rules
 
-shared-slice-read-line : tie.Need-shared-slice-read-line invariant-loop decreases-loop
+shared-slice-read-line : tie.Need-bounds-lines-i invariant-loop-i decreases-loop-i
 shared-slice-read-line c = search rules
 
-line-requires : tie.Need-line-requires invariant-loop decreases-loop
+line-requires : tie.Need-line-end-requires invariant-loop-i decreases-loop-i
 line-requires c κs =
-    let l = c.before.before in
-    let s = l.before.before.before.before in
-    each_at (λ x. StorableLine degree_limit (line_of x)) s.args.lines.now 0 l.before.loop.i
-    (each-mapped (StorableLine degree_limit) line_of s.args.lines.now s.requires) l.loop-test.true
+    let l = c in
+    let s = l in
+    each_at (λ x. StorableLine degree_limit (line_of x)) s.args.lines.now 0 l.loop-i.i
+    (each-mapped (StorableLine degree_limit) line_of s.args.lines.now s.requires) l.loop-i-test.true
 
-add-i : tie.Need-overflow-add-i invariant-loop decreases-loop
+add-i : tie.Need-overflow_add-i invariant-loop-i decreases-loop-i
 add-i c = search rules
 
-loop-less : tie.Need-loop-smaller invariant-loop decreases-loop
+loop-less : tie.Need-loop-i-smaller invariant-loop-i decreases-loop-i
 loop-less c = search rules
 
-loop-again : tie.Need-loop-preserved invariant-loop decreases-loop
+loop-again : tie.Need-loop-i-preserved invariant-loop-i decreases-loop-i
 loop-again c =
-    let k = c.before.before in
-    let l = k.before.before.before in
-    let lines = l.before.before.before.before.args.lines.now in
-    let next = joined-next word_text lines 0 l.before.loop.i l.loop-test.true in
-    (omega arith, rw (add-one, next) (wrote_then l.before.loop.invariant.1 (room l.before) k.line.ensures))
+    let k = c in
+    let l = k in
+    let lines = l.args.lines.now in
+    let next = joined-next word_text lines 0 l.loop-i.i l.loop-i-test.true in
+    (omega arith, rw (add-one, next) (wrote_then l.loop-i.invariant.1 (room l.before.before.before.before.before.before) k.line-end.ensures))
 
-same_length : tie.Need-same-length invariant-loop decreases-loop
-same_length c = wrote-length c.before.loop.invariant.1
+same_length : tie.Need-shape_of-out invariant-loop-i decreases-loop-i
+same_length c = wrote-length c.loop-i.invariant.1
 
-returns : tie.Need-returns invariant-loop decreases-loop
+returns : tie.Need-returns invariant-loop-i decreases-loop-i
 returns c =
-    let lines = c.before.before.before.before.args.lines.now in
+    let lines = c.args.lines.now in
     rw (joined-map line_text line_of lines)
-    (rw (take_all c.before.loop.i lines c.loop-test.false) at c.before.loop.invariant.1)
+    (rw (take_all c.loop-i.i lines c.loop-i-test.false) at c.loop-i.invariant.1)
 
-pub all-spec : {M : Type 1} → statement M
-all-spec =
+pub all_spec : {M : Type 1} → statement M
+all_spec =
     tie.close
     (tie.spec
-    invariant-loop
-    decreases-loop
+    invariant-loop-i
+    decreases-loop-i
     loop-holds
     mul-line
     shared-slice-read-line

@@ -8,41 +8,41 @@ use borrow.Author.Rules.{rules}
 use Rattle.sessiontext.proofs.writing.behind.Statement.{statement}
 use Rattle.sessiontext.proofs.writing.behind.Tie as tie
 
-byte-requires : tie.Need-byte-requires
+byte-requires : tie.Need-byte-end-requires
 byte-requires c κs = search rules
 
-list-requires : tie.Need-list-requires
+list-requires : tie.Need-list-end-requires
 list-requires c κs = search rules
 
-byte-requires-2 : tie.Need-byte-requires-2
+byte-requires-2 : tie.Need-byte-end-requires-2
 byte-requires-2 c κs = search rules
 
-list-requires-2 : tie.Need-list-requires-2
+list-requires-2 : tie.Need-list-end-requires-2
 list-requires-2 c κs = search rules
 
-byte-requires-3 : tie.Need-byte-requires-3
+byte-requires-3 : tie.Need-byte-requires
 byte-requires-3 c κs = search rules
 
-same_length : tie.Need-same-length
+same_length : tie.Need-shape_of-out
 same_length c = search rules
 
-room : (c : tie.After-byte) → length c.before.before.before.before.before.args.out.now ≤ most
+room : (c : tie.After-byte-end) → length c.args.out.now ≤ most
 room c = omega arith
 
 returns : tie.Need-returns
 returns c =
-    let newline = c.before.before in
-    let class = newline.before.before.before.before in
-    let second = class.before.before.before.before in
-    let shape = second.before.before.before.before in
-    let first = shape.before.before.before.before in
-    let m = room first in
+    let newline = c in
+    let class = newline in
+    let second = class in
+    let shape = second in
+    let first = shape in
+    let m = room first.before.before.before.before.before.before.before.before.before.before.before.before.before.before.before.before.before.before in
     wrote_then
-    (wrote_then (wrote_then (wrote_then first.byte.ensures m shape.list.ensures) m second.byte2.ensures) m
-    class.list2.ensures) m newline.byte3.ensures
+    (wrote_then (wrote_then (wrote_then first.byte-end.ensures m shape.list-end.ensures) m second.byte-end-2.ensures) m
+    class.list-end-2.ensures) m newline.byte.ensures
 
-pub behind-spec : {M : Type 1} → statement M
-behind-spec =
+pub behind_spec : {M : Type 1} → statement M
+behind_spec =
     tie.close
     (tie.spec
     byte-requires

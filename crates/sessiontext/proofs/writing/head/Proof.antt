@@ -5,19 +5,19 @@ use borrow.Author.Rules.{rules}
 use Rattle.sessiontext.proofs.writing.head.Statement.{statement}
 use Rattle.sessiontext.proofs.writing.head.Tie as tie
 
-asked-requires : tie.Need-asked-requires
+asked-requires : tie.Need-asked-end-requires
 asked-requires c κs = search rules
 
 reached-requires : tie.Need-reached-requires
 reached-requires c κs = search rules
 
-same_length : tie.Need-same-length
+same_length : tie.Need-shape_of-out
 same_length c = search rules
 
 returns : tie.Need-returns
 returns c =
-    let k = c.before.before in
-    wrote_then k.before.before.before.before.asked.ensures (omega arith) k.reached.ensures
+    let k = c in
+    wrote_then k.asked-end.ensures (omega arith) k.reached.ensures
 
 pub head_spec : {M : Type 1} → statement M
 head_spec = tie.close (tie.spec asked-requires reached-requires same_length returns)

@@ -23,50 +23,38 @@ module _ (c : tie.Start) where
   settled : to_z w64 (of_z w64 c.args.slip.settled) ≡ c.args.slip.settled
   settled = to_z-of_z {w = w64} (held_fits c.args.slip.settled c.requires.1)
 
-slice-aggregate-number : tie.Need-slice-aggregate-number
-slice-aggregate-number c = search rules
-
-cast-number : tie.Need-overflow-cast-number
+cast-number : tie.Need-overflow_cast-slip
 cast-number c =
-    let start = c.before.before.before.before in
-    rw (steps start) (tt, record { fits = omega (arith, start.requires.0.small) })
+    let start = c in
+    rw (steps start.before.before.before.before.before) (tt, record { fits = omega (arith, start.requires.0.small) })
 
-number-requires : tie.Need-number-requires
+number-requires : tie.Need-number-end-requires
 number-requires c κs = search rules
 
-slice-aggregate-integer : tie.Need-slice-aggregate-integer
-slice-aggregate-integer c = search rules
-
-integer-requires : tie.Need-integer-requires
+integer-requires : tie.Need-integer-end-requires
 integer-requires c κs = search rules
 
-slice-aggregate-number-2 : tie.Need-slice-aggregate-number-2
-slice-aggregate-number-2 c = search rules
-
-number-requires-2 : tie.Need-number-requires-2
+number-requires-2 : tie.Need-number-requires
 number-requires-2 c κs = search rules
 
-same_length : tie.Need-same-length
+same_length : tie.Need-shape_of-out
 same_length c = search rules
 
 returns : tie.Need-returns
 returns c =
-    let k = c.before.before in
-    let z = k.before.before.before.before.before in
-    let n = z.before.before.before.before.before.before in
-    let start = n.before.before.before.before.before.before in
-    wrote_then (wrote_then (rw (steps start) at n.number.ensures) (omega arith) (rw (settled start) at z.integer.ensures)) (omega arith) k.number2.ensures
+    let k = c in
+    let z = k in
+    let n = z in
+    let start = n in
+    wrote_then (wrote_then (rw (steps start.before.before.before.before.before.before.before.before.before.before.before.before.before.before.before.before.before.before.before.before.before.before) at n.number-end.ensures) (omega arith) (rw (settled start.before.before.before.before.before.before.before.before.before.before.before.before.before.before.before.before.before.before.before.before.before.before) at z.integer-end.ensures)) (omega arith) k.number.ensures
 
-pub reached-spec : {M : Type 1} → statement M
-reached-spec =
+pub reached_spec : {M : Type 1} → statement M
+reached_spec =
     tie.close
     (tie.spec
-    slice-aggregate-number
     cast-number
     number-requires
-    slice-aggregate-integer
     integer-requires
-    slice-aggregate-number-2
     number-requires-2
     same_length
     returns)

@@ -9,22 +9,22 @@ use borrow.Author.Rules.{rules}
 use Rattle.sessiontext.proofs.writing.session.Statement.{statement}
 use Rattle.sessiontext.proofs.writing.session.Tie as tie
 
-head-requires : tie.Need-head-requires
+head-requires : tie.Need-head-end-requires
 head-requires c κs = search rules
 
 all-requires : tie.Need-all-requires
 all-requires c κs = search rules
 
-same_length : tie.Need-same-length
+same_length : tie.Need-shape_of-out
 same_length c = search rules
 
 returns : tie.Need-returns
 returns c =
-    let k = c.before.before in
-    let h = k.before.before.before.before in
-    let start = h.before.before.before.before in
+    let k = c in
+    let h = k in
+    let start = h in
     rw (session-parts plain_form start.args.slip _, length-map start.args.lines.now line_of)
-    (wrote_then h.head.ensures (omega arith) k.all.ensures)
+    (wrote_then h.head-end.ensures (omega arith) k.all.ensures)
 
-pub session-spec : {M : Type 1} → statement M
-session-spec = tie.close (tie.spec head-requires all-requires same_length returns)
+pub session_spec : {M : Type 1} → statement M
+session_spec = tie.close (tie.spec head-requires all-requires same_length returns)

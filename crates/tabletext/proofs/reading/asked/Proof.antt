@@ -13,77 +13,73 @@ use Rattle.tabletext.specs.Private.Reading.Laws.{read_asked, read-nothing}
 use Rattle.tabletext.proofs.reading.asked.Statement.{statement}
 use Rattle.tabletext.proofs.reading.asked.Tie as tie
 
-abbrev number : tie.After-number → tie.Else1
-number c = c.before.before.before
+abbrev number : tie.After-number-end → tie.Else-n-gt99
+number c = c.before.before.before.before
 
-abbrev begin : tie.Else1 → tie.Start
+abbrev begin : tie.Else-n-gt99 → tie.Start
 begin c = c.before.before.before
 
-short : (c : tie.Else1) → length (asking c.before.number_in.result) ≤ 10
-short c = asking-short _ (omega (arith, c.if1.false))
+short : (c : tie.Else-n-gt99) → length (asking c.number_in-n.result) ≤ 10
+short c = asking-short _ (omega (arith, c.if-n-gt99.false))
 
-line : (c : tie.After-number)
-    → take c.number.result c.number.new.1.1.0 ≡ asking (number c).before.number_in.result
-line c = wrote-take c.number.ensures (omega arith) (short (number c))
+line : (c : tie.After-number-end)
+    → take c.number-end.result c.number-end.new.out ≡ asking (number c).number_in-n.result
+line c = wrote-take c.number-end.ensures (omega arith) (short (number c))
 
-within : (c : tie.After-number) → c.number.result ≤ length c.number.new.1.1.0
+within : (c : tie.After-number-end) → c.number-end.result ≤ length c.number-end.new.out
 within c =
     let n = number c in
-    omega (arith, wrote-end c.number.ensures (omega arith) (short n), wrote-length c.number.ensures, short n)
+    omega (arith, wrote-end c.number-end.ensures (omega arith) (short n), wrote-length c.number-end.ensures, short n)
 
-number-in-requires : tie.Need-number-in-requires
+number-in-requires : tie.Need-number_in-n-requires
 number-in-requires c κs = search rules
 
-returns : tie.Need-returns
+returns : tie.Need-returns-then-n-gt99
 returns c =
-    let n = c.before in
-    rw (read-nothing _ _ n.number_in.ensures (λ h. absurd (omega (arith, c.if1.true)))) refl
+    let n = c in
+    rw (read-nothing _ _ n.number_in-n.ensures (λ h. absurd (omega (arith, c.if-n-gt99.true)))) refl
 
-cast-degree : tie.Need-overflow-cast-degree
+cast-degree : tie.Need-overflow_cast-degree
 cast-degree c = search rules
 
-slice-aggregate-number : tie.Need-slice-aggregate-number
+slice-aggregate-number : tie.Need-slice_bounds-number-end-2
 slice-aggregate-number c = search rules
 
-slice-aggregate-number-2 : tie.Need-slice-aggregate-number-2
-slice-aggregate-number-2 c = search rules
-
-number-requires : tie.Need-number-requires
+number-requires : tie.Need-number-end-requires
 number-requires c κs = search rules
 
-array-share-prefix-line : tie.Need-array-share-prefix-line
+array-share-prefix-line : tie.Need-slice_bounds-line-end
 array-share-prefix-line c = within c.before
 
-slice-aggregate-same : tie.Need-slice-aggregate-same
+slice-aggregate-same : tie.Need-slice_bounds-same-end
 slice-aggregate-same c = sym (length-take-le _ _ (within c.before.before))
 
 same-requires : tie.Need-same-requires
 same-requires c κs = search rules
 
-returns-2 : tie.Need-returns-2
+returns-2 : tie.Need-returns-then-same
 returns-2 c =
-    let s = c.before in
-    let l = s.before.before.before in
-    let n = number l in
-    rw (read_asked _ _ n.before.number_in.ensures (omega (arith, n.if1.left))
-    (s.same.ensures.0 c.if2.true ∙ line l)) refl
+    let s = c in
+    let l = s in
+    let n = number l.before.before.before.before in
+    rw (read_asked _ _ n.number_in-n.ensures (omega (arith, n.if-n-gt99.false))
+    (s.same.ensures.0 c.if-same.true ∙ line l.before.before.before.before)) refl
 
-returns-3 : tie.Need-returns-3
+returns-3 : tie.Need-returns-else-same
 returns-3 c =
-    let s = c.before in
-    let l = s.before.before.before in
-    rw (read-nothing _ _ (number l).before.number_in.ensures
-    (λ h e. false≢true (sym c.if2.false ∙ s.same.ensures.1 (e ∙ sym (line l))))) refl
+    let s = c in
+    let l = s in
+    rw (read-nothing _ _ (number l.before.before.before.before).number_in-n.ensures
+    (λ h e. false≢true (sym c.if-same.false ∙ s.same.ensures.1 (e ∙ sym (line l.before.before.before.before))))) refl
 
-pub asked-spec : {M : Type 1} → statement M
-asked-spec =
+pub asked_spec : {M : Type 1} → statement M
+asked_spec =
     tie.close
     (tie.spec
     number-in-requires
     returns
     cast-degree
     slice-aggregate-number
-    slice-aggregate-number-2
     number-requires
     array-share-prefix-line
     slice-aggregate-same

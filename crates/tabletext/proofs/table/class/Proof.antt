@@ -23,109 +23,109 @@ abbrev class : tie.Start → Parts
 class c = get_or (listing c.args.degree) c.args.rank []
 
 -- the places passed: the class's word, its parts, its size and its column are asked for in this order
-abbrev begin : tie.After-class-at → tie.Start
+abbrev begin : tie.After-class_at-class → tie.Start
 begin c = c.before.before
 
-abbrev worded : tie.After-parts2 → tie.After-class-at
+abbrev worded : tie.After-parts-written → tie.After-class_at-class
 worded c = c.before.before
 
-abbrev parted : tie.After-size → tie.After-parts2
+abbrev parted : tie.After-size-size → tie.After-parts-written
 parted c = c.before.before
 
-abbrev sized : tie.After-column → tie.After-size
+abbrev sized : tie.After-column-column → tie.After-size-size
 sized c = c.before.before
 
-word : (c : tie.After-class-at) → c.class-at.result.word ≡ class_word (class (begin c))
+word : (c : tie.After-class_at-class) → c.class_at-class.result.word ≡ class_word (class (begin c))
 word c =
     let s = begin c in
-    word-of-rank degree_limit (omega arith) s.args.degree s.args.rank s.pre.0 s.pre.1 _
-    c.class-at.ensures
+    word-of-rank degree_limit (omega arith) s.args.degree s.args.rank s.requires.0 s.requires.1 _
+    c.class_at-class.ensures
 
-parts : (c : tie.After-parts2)
-    → FrontGiven (class (begin (worded c))) c.parts2.result c.parts2.new.1.0
+parts : (c : tie.After-parts-written)
+    → FrontGiven (class (begin (worded c))) c.parts-written.result c.parts-written.new.column
 parts c =
     let a = worded c in
     let s = begin a in
-    parts-of-rank degree_limit (omega arith) s.args.degree s.args.rank s.pre.0 s.pre.1 _ (word a) _ _
-    c.parts2.ensures
+    parts-of-rank degree_limit (omega arith) s.args.degree s.args.rank s.requires.0 s.requires.1 _ (word a) _ _
+    c.parts-written.ensures
 
-size : (c : tie.After-size)
-    → to_z w64 (of_z w64 c.size.result.number)
+size : (c : tie.After-size-size)
+    → to_z w64 (of_z w64 c.size-size.result.number)
     ≡ pos (class_size (class (begin (worded (parted c)))))
 size c =
     let a = worded (parted c) in
     let s = begin a in
-    size-of-rank degree_limit (omega arith) s.args.degree s.args.rank s.pre.0 s.pre.1 _ (word a) _
-    c.size.ensures
+    size-of-rank degree_limit (omega arith) s.args.degree s.args.rank s.requires.0 s.requires.1 _ (word a) _
+    c.size-size.ensures
 
-values : (c : tie.After-column) → let s = begin (worded (parted (sized c))) in
-    FrontGiven (column (class s)) c.column.result c.column.new.1.0
+values : (c : tie.After-column-column) → let s = begin (worded (parted (sized c))) in
+    FrontGiven (column (class s)) c.column-column.result c.column-column.new.values
 values c =
     let a = worded (parted (sized c)) in
     let s = begin a in
-    column-of-rank degree_limit (omega arith) s.args.degree s.args.rank s.pre.0 s.pre.1 _ (word a) _
-    (listing-few _ s.pre.0) _ _ c.column.ensures
+    column-of-rank degree_limit (omega arith) s.args.degree s.args.rank s.requires.0 s.requires.1 _ (word a) _
+    (listing-few _ s.requires.0) _ _ c.column-column.ensures
 
 -- what the lines are made of is the class's own
-text : (c : tie.After-column) → let p = parted (sized c) in
+text : (c : tie.After-column-column) → let p = parted (sized c) in
     let s = begin (worded p) in
     class_text
-    (take p.parts2.result.count p.parts2.last.1.0)
-    (nat_abs (to_z w64 (of_z w64 (sized c).size.result.number)))
-    (take c.column.result.count c.column.new.1.0) ≡ class_lines (class s)
+    (take p.parts-written.result.count p.parts-written.new.column)
+    (nat_abs (to_z w64 (of_z w64 (sized c).size-size.result.number)))
+    (take c.column-column.result.count c.column-column.new.values) ≡ class_lines (class s)
 unfolding class_lines
 text c = rw ((parts (parted (sized c))).front, size (sized c), (values c).front)
 
-class-at-requires : tie.Need-class-at-requires
+class-at-requires : tie.Need-class_at-class-requires
 class-at-requires c κs = search rules
 
-slice-aggregate-parts : tie.Need-slice-aggregate-parts
+slice-aggregate-parts : tie.Need-slice_bounds-parts-end
 slice-aggregate-parts c = search rules
 
-parts-requires : tie.Need-parts-requires
+parts-requires : tie.Need-parts-written-requires
 parts-requires c κs = search rules
 
-size-requires : tie.Need-size-requires
+size-requires : tie.Need-size-size-requires
 size-requires c κs = search rules
 
-slice-aggregate-column : tie.Need-slice-aggregate-column
+slice-aggregate-column : tie.Need-slice_bounds-column-end
 slice-aggregate-column c = search rules
 
-column-requires : tie.Need-column-requires
+column-requires : tie.Need-column-column-requires
 column-requires c κs = search rules
 
-array-share-prefix-parts : tie.Need-array-share-prefix-parts
+array-share-prefix-parts : tie.Need-slice_bounds-parts-end-2
 array-share-prefix-parts c = (parts (parted (sized c.before))).inside
 
-slice-aggregate-lines : tie.Need-slice-aggregate-lines
+slice-aggregate-lines : tie.Need-slice_bounds-lines-end
 slice-aggregate-lines c = sym (length-take-le _ _ (parts (parted (sized c.before.before))).inside)
 
-cast-lines : tie.Need-overflow-cast-lines
+cast-lines : tie.Need-overflow_cast-size
 cast-lines c =
-    let s = c.before.before.before.before.before.before in
-    let a = begin (worded (parted s)) in
-    let most = size_fits degree_limit (omega arith) a.args.degree a.args.rank a.pre.0 a.pre.1 in
-    rw (size s) (tt, record { fits = omega (arith, most) })
+    let s = c in
+    let a = begin (worded (parted s.before.before.before.before.before.before)) in
+    let most = size_fits degree_limit (omega arith) a.args.degree a.args.rank a.requires.0 a.requires.1 in
+    rw (size s.before.before.before.before.before.before) (tt, record { fits = omega (arith, most) })
 
-array-share-prefix-values : tie.Need-array-share-prefix-values
+array-share-prefix-values : tie.Need-slice_bounds-values-end
 array-share-prefix-values c = (values c.before.before.before.before).inside
 
-slice-aggregate-lines-2 : tie.Need-slice-aggregate-lines-2
+slice-aggregate-lines-2 : tie.Need-slice_bounds-lines-end-2
 slice-aggregate-lines-2 c = sym (length-take-le _ _ (values c.before.before.before.before.before).inside)
 
 lines-requires : tie.Need-lines-requires
 lines-requires c κs = search rules
 
-same_length : tie.Need-same-length
+same_length : tie.Need-shape_of-out
 same_length c = search rules
 
 returns : tie.Need-returns
 returns c =
-    let k = c.before.before in
-    rw (← text k.before.before.before.before.before.before.before) k.lines.ensures
+    let k = c in
+    rw (← text k.before.before.before.before.before.before.before.before.before) k.lines.ensures
 
-pub class-spec : {M : Type 1} → statement M
-class-spec =
+pub class_spec : {M : Type 1} → statement M
+class_spec =
     tie.close
     (tie.spec
     class-at-requires

@@ -10,16 +10,16 @@ use Rattle.tabletext.specs.Table.Room.{listing-few}
 use Rattle.tabletext.proofs.table.count.Statement.{statement}
 use Rattle.tabletext.proofs.table.count.Tie as tie
 
-counted : (c : tie.After-section) → c.section.result.count ≡ length (listing c.before.args.degree)
+counted : (c : tie.After-section) → c.section.result.count ≡ length (listing c.args.degree)
 counted c =
-    ap (λ (r : SectionAnswer). r.count) (section-given _ _ _ c.section.ensures c.before.requires)
+    ap (λ (r : SectionAnswer). r.count) (section-given _ _ _ c.section.ensures c.requires)
 
 section-requires : tie.Need-section-requires
 section-requires c κs = search rules
 
-cast-result : tie.Need-overflow-cast-result
+cast-result : tie.Need-overflow_cast-result
 cast-result c =
-    let start = c.before.before in
+    let start = c in
     omega (arith, counted c.before, listing-few start.args.degree start.requires)
 
 returns : tie.Need-returns

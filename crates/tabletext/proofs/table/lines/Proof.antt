@@ -9,47 +9,35 @@ use Rattle.tabletext.specs.Table.{class_text}
 use Rattle.tabletext.proofs.table.lines.Statement.{statement}
 use Rattle.tabletext.proofs.table.lines.Tie as tie
 
-slice-aggregate-list : tie.Need-slice-aggregate-list
-slice-aggregate-list c = search rules
-
-list-requires : tie.Need-list-requires
+list-requires : tie.Need-list-end-requires
 list-requires c κs = search rules
 
-slice-aggregate-number : tie.Need-slice-aggregate-number
-slice-aggregate-number c = search rules
-
-number-requires : tie.Need-number-requires
+number-requires : tie.Need-number-end-requires
 number-requires c κs = search rules
-
-slice-aggregate-values : tie.Need-slice-aggregate-values
-slice-aggregate-values c = search rules
 
 values-requires : tie.Need-values-requires
 values-requires c κs = search rules
 
-same_length : tie.Need-same-length
+same_length : tie.Need-shape_of-out
 same_length c = search rules
 
-room : (c : tie.After-list) → length c.before.before.before.before.before.args.out.now ≤ most
+room : (c : tie.After-list-end) → length c.args.out.now ≤ most
 room c = omega arith
 
 returns : tie.Need-returns
 unfolding class_text
 returns c =
-    let v = c.before.before in
-    let n = v.before.before.before.before.before in
-    let l = n.before.before.before.before.before in
-    wrote_then (wrote_then l.list.ensures (room l) n.number.ensures) (room l) v.values.ensures
+    let v = c in
+    let n = v in
+    let l = n in
+    wrote_then (wrote_then l.list-end.ensures (room l.before.before.before.before.before.before.before.before.before.before.before.before.before.before) n.number-end.ensures) (room l.before.before.before.before.before.before.before.before.before.before.before.before.before.before) v.values.ensures
 
-pub lines-spec : {M : Type 1} → statement M
-lines-spec =
+pub lines_spec : {M : Type 1} → statement M
+lines_spec =
     tie.close
     (tie.spec
-    slice-aggregate-list
     list-requires
-    slice-aggregate-number
     number-requires
-    slice-aggregate-values
     values-requires
     same_length
     returns)

@@ -14,7 +14,7 @@ text : (c : tie.After-decimal-count)
     → take c.decimal-count.result c.decimal-count.new.out ≡ decimal c.args.n
 text c =
     let d = c.decimal-count.ensures in
-    d.1.1 ∙ decimal-digits _ _ c.ranges.n.fits d.1.0
+    d.1.1.0 ∙ decimal-digits _ _ c.ranges.n.fits d.1.0
 
 cast-byte : tie.Need-overflow_cast-n
 cast-byte c = search rules

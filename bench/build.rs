@@ -1,4 +1,4 @@
-// Links the static library that `rt staticlib zembrusha` wrote.
+// Links the static library that `tools/build library` made.
 fn main() {
     let root = std::env::var("CARGO_MANIFEST_DIR").unwrap();
     println!("cargo:rustc-link-search={root}/../target/staticlib");

@@ -1,16 +1,18 @@
 #!/usr/bin/env python3
 """docs.py: what the pages name is there, and what is there is named. Run it in the repository; needs python3 alone.
 
-The pages are README.md and docs/*.md; docs/changes/*.md are history, which names what has gone, and are left out.
+The pages are README.md and docs/*.md; docs/changes/*.md are history, which names what has gone, and are left out, as
+docs/PORT*.md are, which tell of the move from an older Rattle.
 - Every name in backquotes is a crate, a module, a function, a type, a field, a constant, an edit, a definition or
-  theorem, a file or folder, a command, or one of the few words listed below. X: `name` says that X.antt has it.
+  theorem, a file or folder, a command, or one of the few words listed below. X: `name` says that X.antt has it, in
+  theory that of specs/ or that of proofs/.
 - docs/PROMISES.md has one row for each public function, and no other; its theorem stands in proofs/Unique.antt of its
   crate and speaks of this function's contract; its edits are must-fail edits of its crate, or of the one that it names;
   each call but an export has two or more, or an exception with a reason.
 - Every edit, and every theorem of a Unique.antt, is named: an edit on PROMISES or READING, a theorem on PROMISES.
 - Every definition file is named on READING, every crate has a row on ARCHITECTURE, row k of the refusals names no-k,
-  and the tables that tools/pages.py writes are what it writes. No edit changes a file of proofs/, and what an edit
-  changes stands in its file once.
+  and the tables that tools/pages.py writes are what it writes. No edit changes a file of proofs/, but for one of
+  theory, where laws stand there, that changes a definition first; and what an edit changes stands in its file once.
 - Decisions are numbered, each number once, and a number that is cited is there; a line of text has at most 120
   characters.
 It tells that a name is there, not that it says what the page claims. Last it tries itself: a page that is changed in
@@ -29,23 +31,23 @@ import tree  # noqa: E402
 PROMISES, READING, DECISIONS = 'docs/PROMISES.md', 'docs/READING.md', 'docs/DECISIONS.md'
 
 # Words of the two languages and of the notation, of the kit's library, placeholders, and texts that are shown.
-WORDS = set('''requires ensures abbrev unfoldable pub mod enum struct extern u8 u64 i64 usize f64 read write
-rt help stdout NAME CRATE
+WORDS = set('''requires ensures abbrev unfoldable pub mod enum struct extern u8 u64 i64 usize f64 std
+rt help stdout crates/NAME CRATE
 '''.split()) | {
-    'x ∷ xs', '[]', '++', '≡', 'p ∣ n', '×', '→ ⊥', '(n : ℕ) × P', '(_=? p)', 'cond b x y',
-    'elim z [ | pos n ↦ .. ]', 'r .refused', '.0', '.1', 'now (page .entry)', 'now (page .exit)', '&', '&[u8]', '&[..]',
+    'x ∷ xs', '[]', '++', '≡', 'p ∣ n', '×', '→ ⊥', '(n : ℕ) × P', '(◌=? p)', 'cond b x y',
+    'elim z [ | pos n ↦ .. ]', 'r.refused', '.0', '.1', 'parts.now', 'page.old', 'page.new', '&', '&[u8]', '&[..]',
     '&[u64]', '&mut [..]', '&mut [u64]', '&mut [i64]', '!s & (s << h)', 'suc zero', 'extern "C"', '-lzembrusha',
-    'X: name', 'X.antt', 'specs/X.antt', 'specs/X/', 'proofs/F/Proof.antt', 'crate::function',
-    'In', 'By', 'mode=gathered', 'degree=', 'degree=3', 'class=', 'class=3', 'refused=12', 'refused=13', 'table 5',
-    '0x2C000000',
-    'N passed, 0 failed', 'old:', 'new:', 'pub mod', 'pub fn'}
+    '--only F', '--start F', 'X: name', 'X.antt', 'specs/X.antt', 'specs/X/', 'proofs/X/', 'proofs/F/',
+    'crate::function', 'In', 'By', 'mode=gathered', 'degree=', 'degree=3', 'class=', 'class=3', 'refused=12',
+    'refused=13', 'table 5', '0x2C000000', 'rattle-kit-13f logic dac8208d650f15bf', 'N passed, 0 failed', 'old:',
+    'new:', 'pub mod', 'pub fn'}
 
 # Commands of rt, and the folder of what they make, which need not be there.
-COMMANDS = 'check ci dev doc fmt must-fail staticlib'.split()
+COMMANDS = 'all check ci doc fmt lib must-fail run tidy verdict version'.split()
 MADE = 'target/'
 
 # Where a path may begin.
-FOLDERS = ['', 'crates/', 'crates/*/', 'crates/*/src/', 'crates/*/specs/', 'crates/*/specs/*/']
+FOLDERS = ['', 'crates/', 'crates/*/', 'crates/*/src/', 'crates/*/specs/', 'crates/*/specs/*/', 'crates/*/proofs/']
 
 
 # ---- what is there
@@ -141,13 +143,11 @@ def wrong_names(page, text):
         if not cited and not named(name):
             yield '%s: nothing is named %s' % (page, name)
     for file, name in set(pages.citations(pages.flowing(text))) - {('X', 'name')}:
-        found = pages.cited_file(file)
-        if len(found) != 1:
+        found = pages.cited_files(file)
+        if len({path.split('/')[1] for path in found}) != 1:
             yield '%s: %s is %s' % (page, file, 'no file' if not found else 'one of ' + ', '.join(found))
-        else:
-            items = tree.module(found[0])[0]
-            if name not in items and not any(name in item.inner for item in items.values()):
-                yield '%s: %s has no %s' % (page, found[0], name)
+        elif not any(pages.has_name(path, name) for path in found):
+            yield '%s: %s has no %s' % (page, ' or '.join(found), name)
     for path in set(re.findall(r'(?<![\w/`.])((?:docs|tests|tools|window|crates|bench|\.ci)/[\w./-]*\w)', text)):
         if not there(path):
             yield '%s: no file %s' % (page, path)
@@ -175,16 +175,16 @@ def wrong_theorem(function, crate, cell):
     if not item or not item.text.startswith('pub '):
         yield '%s has no theorem %s' % (file, names[0])
         return
-    reads = 'Rattle·%s·proofs.proofs.%s.Reads' % (crate, '.'.join(function.split('::')[1:]))
+    reads = 'Rattle.%s.proofs.%s.Reads' % (crate, '.'.join(function.split('::')[1:]))
     alias = [name[1:] for name, (module, _) in brought.items() if module == reads and name.startswith('*')]
     if not alias or item.statement.count(' %s.Post ' % alias[0]) != 2:
         yield '%s is not about this function' % names[0]
         return
-    of, other = (' %s.Post κs a %s ' % (alias[0], outcome) for outcome in ('r s', 'r′ s′'))
+    of, other = (' %s.Post κs a %s ' % (alias[0], outcome) for outcome in ('r s', "r' s'"))
     said = item.statement.rpartition('→')[2]
-    if of not in item.statement or other not in item.statement or 'r ≡ r′' not in said:
+    if of not in item.statement or other not in item.statement or "r ≡ r'" not in said:
         yield '%s does not say that two outcomes are one' % names[0]
-    if len(re.findall(r'now \(s [^)]*\) ≡ now \(s′ ', said)) != tree.functions()[function].lent:
+    if len(re.findall(r"\bs\.[\d.]+\.now ≡ s'\.[\d.]+\.now\b", said)) != tree.functions()[function].lent:
         yield '%s does not say so of each lent run' % names[0]
 
 
@@ -255,7 +255,7 @@ def wrong_rows(texts):
     """Refusals in READING, each in its row; crates that a page leaves out; an edit that changes a proof, or is not as
     CONTRIBUTING shows it."""
     for number, row in re.findall(r'^\| (\d+) \| (.*)', texts[READING], re.M):
-        if '`no-%s`' % number not in row:
+        if not re.search('`no[-_]%s`' % number, row):
             yield '%s: row %s does not name no-%s' % (READING, number, number)
     layers = texts['docs/ARCHITECTURE.md'].partition('| crate | holds ')[2].partition('\n\n')[0]
     for crate in tree.crates():
@@ -263,8 +263,10 @@ def wrong_rows(texts):
             yield 'docs/ARCHITECTURE.md: no row for the crate %s' % crate
     edits = {file: tree.read(file) for file in glob.glob('crates/*/must-fail/*.edit')}
     for file, text in edits.items():
-        for changed in re.findall(r'^file: (.*)', text, re.M):
-            if not changed.startswith(('src/', 'specs/')):
+        changes = re.findall(r'^file: (.*)', text, re.M)
+        laws = ('proofs/',) if file.startswith('crates/theory/') and changes[0].startswith('specs/') else ()
+        for changed in changes:
+            if not changed.startswith(('src/', 'specs/', *laws)):
                 yield '%s changes %s' % (file, changed)
         for old in not_once(file, text):
             yield '%s: not once in its file: %s' % (file, old)
@@ -344,7 +346,7 @@ CHANGES = [
     ('docs/PROOF.md', r'`lowered-lowered`', '`lowered-lowering`', 'Lowered.antt has no lowered-lowering'),
     ('docs/ARCHITECTURE.md', r'^\| `listing`.*\n', '', 'no row for the crate listing'),
     ('docs/CONTRIBUTING.md', r'^old: .*', 'old: nothing', 'the edit that it shows'),
-    ('docs/CONTRIBUTING.md', r'`rt dev', '`rt deliver', 'nothing is named rt deliver'),
+    ('docs/CONTRIBUTING.md', r'`rt check`', '`rt chock`', 'nothing is named rt chock'),
     ('docs/CONTRIBUTING.md', r'\bdocs/PROMISES', 'docs/PROMISE', 'no file docs/PROMISE.md'),
     (DECISIONS, r'^\*\*D2\. ', '**D1. ', 'D1 is there twice'),
     (DECISIONS, r'^\*\*D2\. ', '**', 'no number'),
@@ -366,7 +368,8 @@ def unnoticed(texts):
 
 
 def main():
-    texts = {page: tree.read(page) for page in ['README.md', *sorted(glob.glob('docs/*.md'))]}
+    files = ['README.md', *(file for file in sorted(glob.glob('docs/*.md')) if not file.startswith('docs/PORT'))]
+    texts = {page: tree.read(page) for page in files}
     found = sorted(set(lacking(texts))) or list(unnoticed(texts))
     for line in found:
         print(line)

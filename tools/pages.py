@@ -59,16 +59,22 @@ def flowing(text):
 
 
 @functools.cache
-def cited_file(name):
-    """The files that X of `X: name` can mean: one, if the page is right."""
+def cited_files(name):
+    """The files that X of `X: name` can mean, of one crate if the page is right: those of theory's specs/ and proofs/,
+    definitions and theorems of one notion, before those of another crate."""
     first = name.split('/')[0]
     if first in tree.crates():
-        patterns = ['crates/%s.antt' % name]
+        patterns = [['crates/%s.antt' % name]]
     else:
-        patterns = ['crates/theory/specs/%s.antt' % name] + [
-            'crates/%s/%s%s.antt' % (crate, folder, name) for crate in tree.crates() for folder in ('specs/', '')]
-    found = [path for path in patterns if os.path.exists(path)]
-    return found[:1] if found[:1] == patterns[:1] else found
+        patterns = [['crates/theory/%s/%s.antt' % (folder, name) for folder in ('specs', 'proofs')],
+                    ['crates/%s/%s%s.antt' % (crate, folder, name) for crate in tree.crates() for folder in ('specs/', '')]]
+    found = [[path for path in paths if os.path.exists(path)] for paths in patterns]
+    return next((paths for paths in found if paths), [])
+
+
+def has_name(path, name):
+    items = tree.module(path)[0]
+    return name in items or any(name in item.inner for item in items.values())
 
 
 def citations(text):
@@ -110,7 +116,7 @@ def in_order(files):
         lib = 'crates/%s/specs/Lib.antt' % crate
         mods = re.findall(r'pub mod (\w+)', tree.read(lib)) if os.path.exists(lib) else []
         first = re.sub(r'\.antt$', '', file.split('/')[3]) if file.count('/') > 2 else ''
-        return tree.crates().index(crate), mods.index(first) if first in mods else -1, file
+        return tree.crates().index(crate), mods.index(first) if first in mods else -1, '/proofs/' in file, file
     return sorted(files, key=place)
 
 
@@ -137,7 +143,7 @@ def words_of(path, name):
 
 def words_of_theorems(text):
     """The words that the statements of the theorems use which a page names, and the definitions that it names."""
-    cited = [(path, name) for file, name in citations(flowing(text)) for path in cited_file(file)]
+    cited = [(path, name) for file, name in citations(flowing(text)) for path in cited_files(file)]
     return {word for path, name in cited for word in words_of(path, name)}
 
 
@@ -185,14 +191,17 @@ def edits_table(_):
 
 
 def sizes_table(_):
-    rows = []
+    rows, with_code = [], {path.split('::')[0] for path in tree.functions()}
     for crate in tree.crates():
         folder = 'crates/%s/' % crate
         top = tree.lines_of(folder + 'specs/*.antt')
         private = tree.lines_of(folder + 'specs/Private/**/*.antt')
+        laws = tree.lines_of(folder + 'specs/*/**/*.antt') - private
+        proofs = tree.lines_of(folder + 'proofs/**/*.antt')
+        # in a crate without code proofs/ has laws
         counts = [
-            top, tree.lines_of(folder + 'specs/*/**/*.antt') - private, private,
-            tree.lines_of(folder + 'proofs/**/*.antt'), tree.lines_of(folder + 'src/**/*.rt'),
+            top, laws if crate in with_code else laws + proofs, private, proofs if crate in with_code else 0,
+            tree.lines_of(folder + 'src/**/*.rt'),
             sum(crate in crates for crates in tree.edits().values())]
         rows.append(['`%s`' % crate] + [str(count) if count else '' for count in counts])
     totals = [str(sum(int(row[i] or 0) for row in rows)) for i in range(1, 7)]

@@ -1,7 +1,9 @@
 #!/usr/bin/env python3
 """tables.py: writes the tables of the listing, crates/listing/src/tables.rt, and the displacements that give shape
-words their places, crates/classcolumns/src/tables.rt and specs/Private/Displacements.antt. Run it in the repository,
-then `rt fmt`. What it writes is not believed: the functions that read a table say its rule, and are proved."""
+words their places, crates/classcolumns/src/tables.rt and specs/Private/Displacements.antt. Run it in the repository; it
+writes in the layout of `rt fmt`. What it writes is not believed: the functions that read a table say its rule, and are
+proved."""
+import textwrap
 
 LIMIT = 16
 EIGHT_DIGITS = 256
@@ -48,8 +50,9 @@ def number(comment, name, value):
 
 
 def table(comment, name, kind, entries, length=None):
-    lines = ''.join('    %d,\n' % entry for entry in entries)
-    return '\n// %s\npub const %s: [%s; %s] = [\n%s];\n' % (comment, name, kind, length or len(entries), lines)
+    filled = textwrap.fill(' '.join('%d,' % entry for entry in entries), 99, initial_indent='    ',
+                           subsequent_indent='    ')
+    return '\n// %s\npub const %s: [%s; %s] = [\n%s\n];\n' % (comment, name, kind, length or len(entries), filled)
 
 
 with open('crates/listing/src/tables.rt', 'w') as file:
@@ -69,9 +72,9 @@ with open('crates/classcolumns/src/tables.rt', 'w') as file:
 with open('crates/classcolumns/specs/Private/Displacements.antt', 'w') as file:
     rows = [' ∷ '.join(map(str, displacements[i:i + 16])) for i in range(0, EIGHT_DIGITS, 16)]
     file.write('-- Made by tools/tables.py: the displacements that give the shape words their places (Places.antt).\n')
-    file.write('--   displacementTable     one for each number of eight digits\n')
-    file.write('--   largestDisplacement   the largest of them\n')
-    file.write('use Rattle·theory.specs.Basics.{List, [], _∷_, ℕ}\n\n')
-    file.write('abbrev pub largestDisplacement : ℕ\nlargestDisplacement = %d\n\n' % max(displacements))
-    file.write('unfoldable pub displacementTable : List ℕ\ndisplacementTable =\n    ')
+    file.write('--   displacement_table     one for each number of eight digits\n')
+    file.write('--   largest_displacement   the largest of them\n')
+    file.write('use Rattle.theory.specs.Basics.{List, [], ◌∷◌, ℕ}\n\n')
+    file.write('abbrev pub largest_displacement : ℕ\nlargest_displacement = %d\n\n' % max(displacements))
+    file.write('unfoldable pub displacement_table : List ℕ\ndisplacement_table =\n    ')
     file.write(' ∷\n    '.join(rows) + ' ∷ []\n')

@@ -22,8 +22,8 @@ def read(path):
 
 def crates():
     """The crates that crates.txt lists, in its order."""
-    names = [line.split('#')[0].split(':')[0].strip() for line in read('crates.txt').splitlines()]
-    return [name for name in names if name]
+    lines = [line.split('#')[0].split(':')[0].split() for line in read('crates.txt').splitlines()]
+    return [words[0] for words in lines if words]
 
 
 def lines_of(pattern):
@@ -70,6 +70,16 @@ def without_comments(text):
     return re.sub(r'//[^\n]*', '', text)
 
 
+def promises(contract):
+    """What stands in the braces of each `ensures` of a contract."""
+    for m in re.finditer(r'\bensures(?: \*)?(?: \w+)? \{', contract):
+        depth, at = 1, m.end()
+        while depth:
+            depth += {'{': 1, '}': -1}.get(contract[at], 0)
+            at += 1
+        yield contract[m.end():at - 1]
+
+
 def functions_in(path, file, reached):
     """The functions of a file and of the modules that it names. `reached`: `pub mod` lines lead here."""
     text = without_comments(read(file))
@@ -82,7 +92,7 @@ def functions_in(path, file, reached):
         yield Function(
             path='::'.join(path + owner[-1:] + [m['name']]),
             public=bool(m['pub']) and (reached or bool(m['extern'])),
-            promise=' '.join(re.findall(r'ensures (\{.*?⌝ \}|\{.*?\})', contract, re.S)),
+            promise=' '.join(promises(contract)),
             asks='requires' in contract,
             lent=len(re.findall(r'&mut \[', contract)),
             file=file,
@@ -125,9 +135,9 @@ class Item:
 
 
 def module_file(module):
-    """The file of a module path such as Rattle·theory·specs.specs.Hooks.Rule, also where the kit has it; None for
-    libraries of antt."""
-    m = re.match(r'Rattle·(\w+)(?:·\w+)?\.(specs|proofs)\.(.+)$', module)
+    """The file of a module path such as Rattle.theory.specs.Hooks.Rule, also where the kit has it; None for libraries
+    of antt."""
+    m = re.match(r'Rattle\.(\w+)\.(specs|proofs)\.(.+)$', module)
     return m and 'crates/%s/%s/%s.antt' % (m[1], m[2], m[3].replace('.', '/'))
 
 
@@ -147,8 +157,8 @@ def imports(text):
 
 
 def parts_of(name):
-    """The words by which a name is used: those between the places of an operator, as `on` of `_on_`."""
-    return [part for part in name.split('_') if part] if name.startswith('_') or name.endswith('_') else [name]
+    """The words by which a name is used: those between the places of an operator, as `on` of `◌on◌`."""
+    return [part for part in name.split('◌') if part]
 
 
 @functools.cache
@@ -210,9 +220,9 @@ def words_in(text):
     for token in re.split(r'[\s(){};,"⌜⌝]+', text):
         token = token.strip('.')
         if token and token not in bound:
-            yield token.strip('_') or token
-            if '.' in token:
-                yield token
+            yield token
+            # of a projection, as `slip.refused`, what is projected and the field
+            yield from (part for part in token.split('.') if part and part != token and part not in bound)
 
 
 @functools.cache
@@ -237,8 +247,8 @@ def resolve(path, name):
 
 
 def origin_of(origin, name):
-    m = re.match(r'Rattle·(\w+)(?:·\w+)?\.specs\.declared\.', origin)
-    if m:
+    m = re.match(r'Rattle\.(\w+)\.specs\.declared\.', origin)
+    if m and m[1] in crates():
         return 'crates/%s/src' % m[1], name
     file = module_file(origin)
     if not file or not os.path.exists(file):

@@ -6,9 +6,10 @@ The definitions are those of the specs of `theory`, `words`, `listing`, `oldlist
 the gathered mode, and texts.py for the text of a session. Each equation is a list of expressions over the definitions
 and the list of their values, proved by computation alone (`refl`).
 
-A copy of the crates is made in a temporary folder, with crates beside them that have the equations, and `rt` proves
-these; what the repository has proved already is not proved again. Then some values of each notion are changed at
-random, one in an equation, and the checker has to refuse every such equation: so the comparison can fail.
+A copy of the crates is made in a temporary folder, with crates beside them that have the equations, and `rt all check`
+proves these; what a checkout on this machine has proved already is not proved again. Then some values of each notion
+are changed at random, one in an equation, and the checker has to refuse every such equation: so the comparison can
+fail.
 
     python3 tools/values.py                  characters and watches up to degree 10, the rest up to 16; the gathered
                                              mode up to 8, and on (2^8)
@@ -16,8 +17,8 @@ random, one in an equation, and the checker has to refuse every such equation: s
     python3 tools/values.py --only commits,watches --seed 7    some notions, other random cases
     python3 tools/values.py --keep DIR       leave the equations in DIR, to be read
 
-Without options it compares some 66,000 values of 4,400 equations, in 240 seconds of processor time on as many cores as
-there are up to four (four minutes were seen on two busy ones); longer where the crates have to be proved first.
+Without options it compares some 66,000 values of 4,400 equations, on as many cores as there are up to four: in minutes,
+and in longer where the crates have to be proved first.
 
 It is run by hand, and is no part of the gate. The exit status is 0 only if every value agrees and every changed one is
 refused. It needs Python 3 and `rt`. For a new definition write one more function with @notion in front, which yields
@@ -48,7 +49,6 @@ from texts import (  # noqa: E402
 CRATES = ['theory', 'text', 'textreading', 'words', 'listing', 'oldlists', 'pairs', 'linewords', 'pages', 'sessions',
           'characters', 'classcolumns', 'sessiontext']
 NO_SPECS = ['clearing', 'hooks']  # what some of them rest on, and that defines nothing
-LIBRARIES = ['check', 'io']  # what some of them rest on
 
 
 # ---- values as text of antt
@@ -91,7 +91,7 @@ def float_text(x):
 def slip_text(slip):
     """A slip."""
     s, c, settled, lines, steps, mode = slip
-    return '(slipOf %s %s %s %d %s %d)' % (nat(s), nat(c), integer(settled), lines, integer(steps), mode)
+    return '(slip_of %s %s %s %d %s %d)' % (nat(s), nat(c), integer(settled), lines, integer(steps), mode)
 
 
 def lines_text(lines):
@@ -137,12 +137,12 @@ def value_text(k, value, kind):
 
 def call(name, *texts):
     """A definition that takes the limit on degrees."""
-    return ' '.join([name, 'degreeLimit', *texts])
+    return ' '.join([name, 'degree_limit', *texts])
 
 
 def gathered_call(name, *texts):
-    """One that takes a mode too, or a form of texts if it ends in By: the gathered one."""
-    return call('%s %s' % (name, 'gatheredForm' if name.endswith('By') else 'gatheredMode'), *texts)
+    """One that takes a mode too, or a form of texts if it ends in _by: the gathered one."""
+    return call('%s %s' % (name, 'gathered_form' if name.endswith('_by') else 'gathered_mode'), *texts)
 
 
 # ---- cases
@@ -438,8 +438,8 @@ def listing(n, seed):
 def sections(n, seed):
     """Where the words of a degree start among all words, degree by degree, and how many they are."""
     start = sum(len(partitions(d)) for d in range(n))
-    yield call('sectionOf', nat(n)), 'sectionAnswer 0 %d %d' % (start, len(partitions(n)))
-    yield call('sectionOf', nat(17 + n)), 'sectionAnswer 12 0 0'
+    yield call('section_of', nat(n)), 'section_answer 0 %d %d' % (start, len(partitions(n)))
+    yield call('section_of', nat(17 + n)), 'section_answer 12 0 0'
 
 
 @notion(least=LIMIT)
@@ -453,16 +453,16 @@ def partition_rank(n, seed):
 def shape_words(n, seed):
     """Shape words of shapes, and of their conjugates; and these shapes as old words."""
     for p in partitions(n):
-        yield 'shapeWord ' + nats(p), nat(shape_word(p))
-        yield 'conjugateWord ' + nat(shape_word(p)), nat(shape_word(transposed(p)))
-        yield 'oldWord ' + nat(shape_word(p)), nat(class_word(p))
+        yield 'shape_word ' + nats(p), nat(shape_word(p))
+        yield 'conjugate_word ' + nat(shape_word(p)), nat(shape_word(transposed(p)))
+        yield 'old_word ' + nat(shape_word(p)), nat(class_word(p))
 
 
 @notion(least=LIMIT)
 def shapes_read(n, seed):
     """Shapes of shape words; rows and columns interchanged."""
     for p in partitions(n):
-        yield 'shapeOf ' + nat(shape_word(p)), nats(p)
+        yield 'shape_of ' + nat(shape_word(p)), nats(p)
         yield 'transposed ' + nats(p), nats(transposed(p))
 
 
@@ -473,7 +473,7 @@ def good_words(n, seed):
     for p in partitions(n):
         good, room = shape_word(p), room_in_front(shape_word(p))
         for ones in sorted({0, 1, r.randint(1, room), room}):
-            yield 'goodWord ' + nat(in_front(good, ones)), nat(good)
+            yield 'good_word ' + nat(in_front(good, ones)), nat(good)
             yield 'dropped ' + nat(in_front(good, ones)), nat(ones)
 
 
@@ -484,7 +484,7 @@ def good_answers(n, seed):
     for p in partitions(n):
         good = shape_word(p)
         ones = r.randint(0, room_in_front(good))
-        yield call('goodShapeWord', nat(in_front(good, ones))), good_answer(0, good, ones)
+        yield call('good_shape_word', nat(in_front(good, ones))), good_answer(0, good, ones)
 
 
 @notion(most=0)
@@ -492,7 +492,7 @@ def any_good_words(n, seed):
     """The same words and counts at the borders and at random."""
     for w in some_words(seed, 200):
         if w < 2**31:
-            yield 'goodWord ' + nat(w), nat(good_word(w))
+            yield 'good_word ' + nat(w), nat(good_word(w))
             yield 'dropped ' + nat(w), nat(dropped(w))
 
 
@@ -500,52 +500,52 @@ def any_good_words(n, seed):
 def any_good_answers(n, seed):
     """And the call."""
     for w in some_words(seed, 200):
-        yield call('goodShapeWord', nat(w)), good_answer(shape_refusal(w), good_word(w), dropped(w))
+        yield call('good_shape_word', nat(w)), good_answer(shape_refusal(w), good_word(w), dropped(w))
 
 
 def good_answer(k, word, ones):
     """A good word and how many ones were dropped, or a refusal."""
-    return 'goodAnswer %d %s %d' % ((k, '0', 0) if k else (0, nat(word), ones))
+    return 'good_answer %d %s %d' % ((k, '0', 0) if k else (0, nat(word), ones))
 
 
 @notion(least=LIMIT)
 def class_words(n, seed):
     """Class words of classes; and the new words of these, as the old words of shapes."""
     for p in partitions(n):
-        yield 'classWord ' + nats(p), nat(class_word(p))
-        yield 'newWord ' + nat(class_word(p)), nat(shape_word(p))
+        yield 'class_word ' + nats(p), nat(class_word(p))
+        yield 'new_word ' + nat(class_word(p)), nat(shape_word(p))
 
 
 @notion(least=LIMIT)
 def classes_read(n, seed):
     """Classes of class words."""
     for p in partitions(n):
-        yield 'classOf ' + nat(class_word(p)), nats(p)
+        yield 'class_of ' + nat(class_word(p)), nats(p)
 
 
 @notion(least=LIMIT)
 def class_sizes(n, seed):
     """Sizes of classes, and periods as `period-computed` says they are; n!, S(n), the number of partitions."""
     yield 'factorial %d' % n, nat(factorial(n))
-    yield 'getD partitionCounts %d 0' % n, nat(len(partitions(n)))
+    yield 'get_or partition_counts %d 0' % n, nat(len(partitions(n)))
     yield 'S %d' % n, nat(most_steps(n))
     for p in partitions(n):
-        yield 'classSize ' + nats(p), nat(class_size(p))
-        yield 'periodFrom 1 ' + nats(p), nat(period(p))
+        yield 'class_size ' + nats(p), nat(class_size(p))
+        yield 'period_from 1 ' + nats(p), nat(period(p))
 
 
 @notion(least=LIMIT)
 def class_signs(n, seed):
     """Signs of classes: that of a permutation of this class."""
     for p in partitions(n):
-        yield 'classSign ' + nats(p), integer((-1)**(n - len(p)))
+        yield 'class_sign ' + nats(p), integer((-1)**(n - len(p)))
 
 
 @notion
 def character_degrees(n, seed):
     """Character degrees."""
     for p in partitions(n):
-        yield 'characterDegree ' + nats(p), integer(character(p, (1,) * n))
+        yield 'character_degree ' + nats(p), integer(character(p, (1,) * n))
 
 
 @notion(least=LIMIT)
@@ -561,7 +561,7 @@ def l_numbers(n, seed):
     for p in partitions(n):
         column = range(len(p))
         ls = [len({(i, j) for j in range(p[i])} | {(k, 0) for k in column if k > i}) for i in column]
-        yield 'lNumbers ' + nats(p), nats(ls)
+        yield 'l_numbers ' + nats(p), nats(ls)
         yield 'differences ' + nats(ls), nats([ls[i] - ls[k] for i in column for k in column if k > i])
 
 
@@ -589,16 +589,16 @@ def hook_words(n, seed):
     for p in partitions(n):
         for h in range(n + 2):
             left = ['hook %s %s' % (truth(minus), nat(shape_word(q))) for minus, q in hooks(p, h)]
-            yield 'hookWords %d %s' % (h, nat(shape_word(p))), items(left), max(1, len(left))
+            yield 'hook_words %d %s' % (h, nat(shape_word(p))), items(left), max(1, len(left))
 
 
 @notion(most=0)
 def refused_words(n, seed):
     """Refusals of words, as shapes, as shapes that have to be good words, and as classes."""
     for w in some_words(seed, 200):
-        yield 'firstOf (%s)' % call('shapeChecks', nat(w)), nat(shape_refusal(w))
-        yield 'firstOf (%s)' % call('goodShapeChecks', nat(w)), nat(good_shape_refusal(w))
-        yield 'firstOf (%s)' % call('classChecks', nat(w)), nat(class_refusal(w))
+        yield 'first_of (%s)' % call('shape_checks', nat(w)), nat(shape_refusal(w))
+        yield 'first_of (%s)' % call('good_shape_checks', nat(w)), nat(good_shape_refusal(w))
+        yield 'first_of (%s)' % call('class_checks', nat(w)), nat(class_refusal(w))
 
 
 @notion(most=0)
@@ -609,39 +609,39 @@ def refused_pairs(n, seed):
         m = r.randint(0, 18)
         good = some_in_front(r, shape_word(r.choice(partitions(m)))), class_word(r.choice(partitions(m)))
         s, c = (r.choice([word, word, r.choice(words)]) for word in good)
-        yield 'firstOf (%s)' % call('pairChecks', nat(s), nat(c)), nat(pair_refusal(s, c))
+        yield 'first_of (%s)' % call('pair_checks', nat(s), nat(c)), nat(pair_refusal(s, c))
 
 
 @notion(most=0)
 def refused_lists(n, seed):
     """Refusals of part lists."""
     for ps in some_lists(seed, 60):
-        yield 'firstOf (%s)' % call('shapeListChecks', nats(ps)), nat(list_refusal(ps, 2))
-        yield 'firstOf (%s)' % call('classListChecks', nats(ps)), nat(list_refusal(ps, 4))
+        yield 'first_of (%s)' % call('shape_list_checks', nats(ps)), nat(list_refusal(ps, 2))
+        yield 'first_of (%s)' % call('class_list_checks', nats(ps)), nat(list_refusal(ps, 4))
 
 
 @notion(most=0)
 def words_answered(n, seed):
     """The calls that answer a word: from a part list, from a degree and a rank, of a conjugate."""
     for ps in some_lists(seed, 40):
-        for name, large, word in (('shapeWordFrom', 2, shape_word), ('classWordFrom', 4, class_word)):
+        for name, large, word in (('shape_word_from', 2, shape_word), ('class_word_from', 4, class_word)):
             k = list_refusal(ps, large)
-            yield call(name, nats(ps)), 'wordAnswer %d %s' % (k, nat(0 if k else word(ps)))
+            yield call(name, nats(ps)), 'word_answer %d %s' % (k, nat(0 if k else word(ps)))
     for w in some_words(seed, 60):
         k = shape_refusal(w)
         word = 0 if k else shape_word(transposed(shape_of(w)))
-        yield call('conjugateShape', nat(w)), 'wordAnswer %d %s' % (k, nat(word))
+        yield call('conjugate_shape', nat(w)), 'word_answer %d %s' % (k, nat(word))
 
 
 @notion(most=7)
 def words_listed(n, seed):
     """The calls that answer the word of a degree and a rank, up to past the end."""
     for rank in range(len(partitions(n)) + 2):
-        for name, word in (('shapeAt', shape_word), ('classAt', class_word)):
+        for name, word in (('shape_at', shape_word), ('class_at', class_word)):
             k = first_of((rank >= len(partitions(n)), 11))
-            yield call(name, nat(n), nat(rank)), 'wordAnswer %d %s' % (k, nat(0 if k else word(partitions(n)[rank])))
-    for name in ('shapeAt', 'classAt'):
-        yield call(name, nat(17 + n), '0'), 'wordAnswer 12 0'
+            yield call(name, nat(n), nat(rank)), 'word_answer %d %s' % (k, nat(0 if k else word(partitions(n)[rank])))
+    for name in ('shape_at', 'class_at'):
+        yield call(name, nat(17 + n), '0'), 'word_answer 12 0'
 
 
 @notion(most=0)
@@ -650,21 +650,21 @@ def numbers_answered(n, seed):
     for w in some_words(seed, 60):
         k, m = shape_refusal(w), class_refusal(w)
         shape, c = shape_of(w), class_of(w)
-        yield call('shapeDegree', nat(w)), number_answer(k, sum(shape))
-        yield call('classDegree', nat(w)), number_answer(m, sum(c))
-        yield call('signOfClass', nat(w)), number_answer(m, (-1)**(sum(c) - len(c)))
-        yield call('sizeOfClass', nat(w)), number_answer(m, 0 if m else class_size(c))
+        yield call('shape_degree', nat(w)), number_answer(k, sum(shape))
+        yield call('class_degree', nat(w)), number_answer(m, sum(c))
+        yield call('sign_of_class', nat(w)), number_answer(m, (-1)**(sum(c) - len(c)))
+        yield call('size_of_class', nat(w)), number_answer(m, 0 if m else class_size(c))
         yield period_told(w), number_answer(m, period(c))
 
 
 def period_told(w):
     """The answer of which `period-told` says that it is promised."""
-    return 'numbered (classChecks degreeLimit %s) (pos (periodFrom 1 (classOf %s)))' % (nat(w), nat(w))
+    return 'numbered (class_checks degree_limit %s) (pos (period_from 1 (class_of %s)))' % (nat(w), nat(w))
 
 
 def number_answer(k, z):
     """A number that is answered, or a refusal."""
-    return 'numberAnswer %d %s' % (k, integer(0 if k else z))
+    return 'number_answer %d %s' % (k, integer(0 if k else z))
 
 
 @notion
@@ -672,8 +672,8 @@ def ranks_answered(n, seed):
     """The calls that answer the rank of a word, some shape words with ones in front."""
     r = random.Random('%s %s ranks' % (seed, n))
     for rank, p in enumerate(partitions(n)):
-        yield call('shapeRank', nat(some_in_front(r, shape_word(p)))), number_answer(0, rank)
-        yield call('classRank', nat(class_word(p))), number_answer(0, rank)
+        yield call('shape_rank', nat(some_in_front(r, shape_word(p)))), number_answer(0, rank)
+        yield call('class_rank', nat(class_word(p))), number_answer(0, rank)
 
 
 @notion(each=10, most=7)
@@ -684,8 +684,8 @@ def characters_answered(n, seed):
     for p in partitions(n):
         s, c = some_in_front(r, shape_word(p)), class_word(r.choice(partitions(r.choice([n, n, n + 1]))))
         k = pair_refusal(s, c)
-        yield call('characterOf', nat(s), nat(c)), number_answer(k, 0 if k else character(p, class_of(c)))
-        yield call('shapeCharacterDegree', nat(s)), number_answer(0, character(p, (1,) * n))
+        yield call('character_of', nat(s), nat(c)), number_answer(k, 0 if k else character(p, class_of(c)))
+        yield call('shape_character_degree', nat(s)), number_answer(0, character(p, (1,) * n))
 
 
 @notion
@@ -694,7 +694,7 @@ def parts_written(n, seed):
     ones in front."""
     r = random.Random('%s %s parts' % (seed, n))
     for p in partitions(n):
-        for name, word in (('shapePartsInto', some_in_front(r, shape_word(p))), ('classPartsInto', class_word(p))):
+        for name, word in (('shape_parts_into', some_in_front(r, shape_word(p))), ('class_parts_into', class_word(p))):
             for room in {max(0, len(p) - 1), len(p), len(p) + 2}:
                 column = [7] * room
                 k = 14 if room < len(p) else 0
@@ -709,8 +709,8 @@ def lists_moved(n, seed):
     r, words = random.Random('%s %s' % (seed, n)), some_words(seed, 120)
     long = (LIST, LIST + 1)
     cases = [([0] * count, [7] * room) for count in long for room in long] if n == 0 else []
-    for name, pack, read, refusal, packed in (('shapesFromOld', class_word, class_of, class_refusal, shape_word),
-                                              ('shapesToOld', shape_word, shape_of, good_shape_refusal, class_word)):
+    for name, pack, read, refusal, packed in (('shapes_from_old', class_word, class_of, class_refusal, shape_word),
+                                              ('shapes_to_old', shape_word, shape_of, good_shape_refusal, class_word)):
         made = []
         for _ in range(40):
             given = [pack(r.choice(partitions(r.choice([n, n, r.randint(0, LIMIT)])))) for _ in range(r.randint(0, 7))]
@@ -733,7 +733,7 @@ def columns_written(n, seed):
         for room in (len(values) - 1, len(values) + 1):
             k, column = (14 if room < len(values) else 0), [-7] * room
             left = column if k else values + column[len(values):]
-            yield (call('columnInto', nat(class_word(c)), items(map(integer, column))),
+            yield (call('column_into', nat(class_word(c)), items(map(integer, column))),
                    'filled %d %d %s' % (k, 0 if k else len(values), items(map(integer, left))))
 
 
@@ -809,7 +809,7 @@ def watches(n, seed):
 def texts_written(n, seed):
     """The texts of slips and waiting lines, byte by byte."""
     for slip, lines in some_put_away(n, seed):
-        yield 'sessionText %s %s' % (slip_text(slip), lines_text(lines)), bytes_text(put_away(slip, lines))
+        yield 'session_text %s %s' % (slip_text(slip), lines_text(lines)), bytes_text(put_away(slip, lines))
 
 
 @notion(each=10, least=LIMIT)
@@ -833,7 +833,7 @@ def texts_read(n, seed):
     for text in some_texts(n, seed) if n else [*some_texts(n, seed), *(text for text, _ in by_hand())]:
         at_fault, slip, lines = taken_up(text)
         if not at_fault:
-            asked = 'put (slipIn %s) (linesIn %s)' % (bytes_text(text), bytes_text(text))
+            asked = 'put (slip_in %s) (lines_in %s)' % (bytes_text(text), bytes_text(text))
             yield asked, 'put %s %s' % (slip_text(slip), lines_text(lines)), 2
 
 
@@ -845,7 +845,7 @@ def saves(n, seed):
         if len(page) >= PAGE or r.randrange(8) == 0:
             out = [7] * max(0, saved(slip, page, [7] * 999)[1] + r.choice([-1, 0, 0, 3]))
             k, length, left = saved(slip, page, out)
-            asked = call('saveInto', slip_text(slip), nats(page), nats(out))
+            asked = call('save_into', slip_text(slip), nats(page), nats(out))
             yield asked, 'counted %d %d %s' % (k, length, nats(left))
 
 
@@ -859,7 +859,7 @@ def loads(n, seed):
             rooms = [max(0, len(lines) + r.choice([-1, 0, 0, 2]))] + [PAGE, PAGE + 1] * (n == 3 and not lines)
             for page in ([7] * room for room in rooms):
                 k, at_fault, left, words = loaded(text, page)
-                asked = call('loadInto', bytes_text(text), nats(page))
+                asked = call('load_into', bytes_text(text), nats(page))
                 yield asked, 'taken (loaded %d %d %s) %s' % (k, at_fault, slip_text(left), nats(words))
 
 
@@ -911,7 +911,7 @@ def gathered_sound(n, seed):
     """Whether a slip, a page and a column are sound, of random sessions, made up ones, and spoilt ones."""
     for slip, page, column, _, _ in some_gathered(n, seed):
         if len(page) == len(column):
-            asked = gathered_call('soundIn', slip_text(slip), lent_text(page, column))
+            asked = gathered_call('sound_in', slip_text(slip), lent_text(page, column))
             yield asked, truth(gathering.sound(slip, page, column))
 
 
@@ -927,8 +927,8 @@ def gathered_refused(n, seed):
                   for room in (PAGE, PAGE + 1) for other in (PAGE, PAGE + 1)]
         cases += [(slip, page[:room], column[:room - 1 + r.choice([0, 1, 2])]) for room in (1, 2, 3)]
     for slip, page, column in cases:
-        asked = gathered_call('pageChecksIn', slip_text(slip), lent_text(page, column))
-        yield 'firstOf (%s)' % asked, nat(gathering.session_refusal(slip, page, column))
+        asked = gathered_call('page_checks_in', slip_text(slip), lent_text(page, column))
+        yield 'first_of (%s)' % asked, nat(gathering.session_refusal(slip, page, column))
 
 
 @notion(each=8, most=8)
@@ -947,7 +947,7 @@ def gathered_openings(n, seed):
         cases += [(0, 0, room, other) for room in (PAGE, PAGE + 1) for other in (PAGE, PAGE + 1)]
     for s, c, room, other in cases:
         page, column = [7] * room, [0 if other >= PAGE else -7] * other
-        asked = gathered_call('openingIn', nat(s), nat(c), lent_text(page, column))
+        asked = gathered_call('opening_in', nat(s), nat(c), lent_text(page, column))
         yield asked, both_left_text(gathering.opened(s, c, page, column))
 
 
@@ -959,7 +959,7 @@ def gathered_previews(n, seed):
         need = len(gathering.struck(slip, page, column, i, cycle)[1])
         strip = [r.getrandbits(64) for _ in range(r.randint(max(0, need - 1), need + 2))]
         k, count, left = gathering.previewed(slip, page, column, i, cycle, strip)
-        asked = gathered_call('previewIn', slip_text(slip), lent_text(page, column), nat(i), nat(cycle), nats(strip))
+        asked = gathered_call('preview_in', slip_text(slip), lent_text(page, column), nat(i), nat(cycle), nats(strip))
         yield asked, 'counted %d %d %s' % (k, count, nats(left))
 
 
@@ -981,7 +981,7 @@ def gathered_commits(n, seed):
             strips = [given, given, new[:-1], new[::-1], new + [7]]
             cases.append((page, resized(column, len(page) + r.choice([0, 0, 0, 1, -1])), r.choice(strips)))
         for some, beside, strip in cases:
-            asked = gathered_call('commitIn', slip_text(slip), lent_text(some, beside), nat(i), nat(cycle), nats(strip))
+            asked = gathered_call('commit_in', slip_text(slip), lent_text(some, beside), nat(i), nat(cycle), nats(strip))
             yield asked, both_left_text(gathering.committed(slip, some, beside, i, cycle, strip))
 
 
@@ -996,7 +996,7 @@ def gathered_twos(n, seed):
             found = gathering.struck(slip, page, column, i, 2)[1]
             room = max(slip[3], len(gathering.step_taken(slip, page, column, i, found)[0]))
             page, column, strip = resized(page, room), resized(column, room), gathering.strip_of(found)
-            asked = gathered_call('commitIn', slip_text(slip), lent_text(page, column), nat(i), '2', nats(strip))
+            asked = gathered_call('commit_in', slip_text(slip), lent_text(page, column), nat(i), '2', nats(strip))
             answer = gathering.committed(slip, page, column, i, 2, strip)
             yield asked, both_left_text(answer)
             k, slip, page, column = answer
@@ -1011,7 +1011,7 @@ def gathered_watches(n, seed):
         for kind in {r.choice([1, 2, 4]), r.randrange(7)}:
             i = r.choice([i, i, r.randint(0, slip[3])])
             k, value = gathering.watched(slip, page, column, kind, i)
-            asked = gathered_call('watchIn', slip_text(slip), lent_text(page, column), nat(kind), nat(i))
+            asked = gathered_call('watch_in', slip_text(slip), lent_text(page, column), nat(kind), nat(i))
             yield asked, value_text(k, value, kind)
 
 
@@ -1019,7 +1019,7 @@ def gathered_watches(n, seed):
 def gathered_written(n, seed):
     """The texts of gathered slips and waiting lines, byte by byte."""
     for slip, lines in some_gathered_away(n, seed):
-        asked = 'sessionTextBy gatheredForm %s %s' % (slip_text(slip), entries_text(lines))
+        asked = 'session_text_by gathered_form %s %s' % (slip_text(slip), entries_text(lines))
         yield asked, bytes_text(put_away(slip, lines))
 
 
@@ -1027,7 +1027,7 @@ def gathered_written(n, seed):
 def gathered_faults(n, seed):
     """The first lines at fault of such texts, of damaged ones, and of plain ones; and of some by the plain mode."""
     for place, text in enumerate(some_gathered_texts(n, seed)):
-        yield gathered_call('faultBy', bytes_text(text)), nat(taken_up(text, 1)[0])
+        yield gathered_call('fault_by', bytes_text(text)), nat(taken_up(text, 1)[0])
         if place % 8 == 0:
             yield call('fault', bytes_text(text)), nat(taken_up(text)[0])
 
@@ -1037,7 +1037,7 @@ def gathered_by_rules(n, seed):
     """The first lines at fault as the issue of P7 has them, rule by rule."""
     for text, k in gathered_by_hand():
         assert k == taken_up(text, 1)[0], text
-        yield gathered_call('faultBy', bytes_text(text)), nat(k)
+        yield gathered_call('fault_by', bytes_text(text)), nat(k)
 
 
 @notion(each=5, most=7)
@@ -1046,7 +1046,7 @@ def gathered_read(n, seed):
     for text in [*some_gathered_texts(n, seed), *(text for text, _ in gathered_by_hand() if n == 0)]:
         at_fault, slip, lines = taken_up(text, 1)
         if not at_fault:
-            asked = 'put (slipBy gatheredForm %s) (linesBy gatheredForm %s)' % (bytes_text(text), bytes_text(text))
+            asked = 'put (slip_by gathered_form %s) (lines_by gathered_form %s)' % (bytes_text(text), bytes_text(text))
             yield asked, 'put %s %s' % (slip_text(slip), entries_text(lines)), 2
 
 
@@ -1058,7 +1058,7 @@ def gathered_saves(n, seed):
         if r.randrange(4) == 0:
             out = [7] * max(0, gathering.saved(slip, page, column, [7] * 999)[1] + r.choice([-1, 0, 0, 3]))
             k, length, left = gathering.saved(slip, page, column, out)
-            asked = gathered_call('saveBy', slip_text(slip), lent_text(page, column), nats(out))
+            asked = gathered_call('save_by', slip_text(slip), lent_text(page, column), nats(out))
             yield asked, 'counted %d %d %s' % (k, length, nats(left))
 
 
@@ -1084,26 +1084,26 @@ def gathered_loads(n, seed):
     for text, room, other in cases:
         page, column = [7] * room, [0 if other >= PAGE else -7] * other
         k, at_fault, left, words, weights = gathering.loaded(text, page, column)
-        asked = gathered_call('loadBy', bytes_text(text), lent_text(page, column))
+        asked = gathered_call('load_by', bytes_text(text), lent_text(page, column))
         yield asked, 'resumed (loaded %d %d %s) %s' % (k, at_fault, slip_text(left), lent_text(words, weights))
 
 
 # ---- the writing
 CONSTRUCTORS = {
-    'Rattle·theory.specs.Basics': 'Bool true false List [] _∷_ _++_ replicate getD ℕ ℤ pos negsuc'.split(),
-    'Rattle·theory.specs.Hooks': ['Hook'],
-    'Rattle·theory.specs.ClassData.Periods': ['periodFrom'],  # of a file of laws, which `definitions` passes over
-    'Rattle·words.specs.declared.CountAnswer': ['CountAnswer'],
-    'Rattle·oldlists.specs.declared.ListAnswer': ['ListAnswer'],
-    'Rattle·pages.specs.declared.Slip': ['Slip'],
-    'Rattle·pages.specs.Line': ['Line'],
-    'Rattle·sessions.specs.declared.Handed': ['Handed'],
-    'Rattle·sessiontext.specs.declared.Loaded': ['Loaded'],
-    'Rattle·characters.specs.Watch': ['Value', 'whole', 'quotient', 'none'],
+    'Rattle.theory.specs.Basics': 'Bool true false List [] ◌∷◌ ◌++◌ replicate get_or ℕ ℤ pos negsuc'.split(),
+    'Rattle.theory.specs.Hooks': ['Hook'],
+    'Rattle.theory.specs.ClassData.Periods': ['period_from'],  # of a file of laws, which `definitions` passes over
+    'Rattle.words.specs.declared.CountAnswer': ['CountAnswer'],
+    'Rattle.oldlists.specs.declared.ListAnswer': ['ListAnswer'],
+    'Rattle.pages.specs.declared.Slip': ['Slip'],
+    'Rattle.pages.specs.Line': ['Line'],
+    'Rattle.sessions.specs.declared.Handed': ['Handed'],
+    'Rattle.sessiontext.specs.declared.Loaded': ['Loaded'],
+    'Rattle.characters.specs.Watch': ['Value', 'whole', 'quotient', 'none'],
     'lib.Ieee': ['Float', 'fin'],
-    'mathlib.Core.Path': ['_≡_', 'refl'],
+    'mathlib.Core.Path': ['◌≡◌', 'refl'],
 }
-LIBRARY = ['div', 'ofInt']  # definitions of lib.Ieee that have to be unfolded
+LIBRARY = ['div', 'of_int']  # definitions of lib.Ieee that have to be unfolded
 PASSED_OVER = ['Lib.antt', 'Private.antt', 'Examples.antt']
 HIDDEN = [  # asked by no notion, and named as something else is
     ('textreading', 'step'), ('pages', 'left')]
@@ -1118,13 +1118,13 @@ abbrev saw : ℕ → Value → ℕ × Value
 saw k value = (k, value)
 
 abbrev counted : ℕ → ℕ → List ℕ → CountAnswer × List ℕ
-counted k n column = (countAnswer k n, column)
+counted k n column = (count_answer k n, column)
 
 abbrev filled : ℕ → ℕ → List ℤ → CountAnswer × List ℤ
-filled k n column = (countAnswer k n, column)
+filled k n column = (count_answer k n, column)
 
 abbrev listed : ℕ → ℕ → List ℕ → ListAnswer × List ℕ
-listed k i list = (listAnswer k i, list)
+listed k i list = (list_answer k i, list)
 
 abbrev put : Slip → List Line → Slip × List Line
 put slip lines = (slip, lines)
@@ -1169,7 +1169,7 @@ def definitions():
                 text = open('crates/%s/specs/%s' % (crate, file), encoding='utf8').read()
                 found = re.findall(r'^ *(abbrev|unfoldable) pub (\S+) :', text, re.M)
                 own = [name for _, name in found if (crate, name) not in HIDDEN]
-                names.setdefault('Rattle·%s.specs.%s' % (crate, file[:-5]), []).extend(own)
+                names.setdefault('Rattle.%s.specs.%s' % (crate, file[:-5]), []).extend(own)
                 shut += [name for way, name in found if way == 'unfoldable']
     names['lib.Ieee'] += LIBRARY
     return names, shut + LIBRARY
@@ -1182,35 +1182,39 @@ def write(folder, file, text, how='w'):
         out.write(text)
 
 
+def module(notion_name):
+    """The module of a notion's equations."""
+    return ''.join(word.capitalize() for word in notion_name.split('_'))
+
+
 def write_crate(folder, crate, modules):
     """A crate with no function, and a file of equations for each notion."""
     names, shut = definitions()
     for notion_name, made in modules.items():
         body = OWN + ''.join(equation_text(*equation, shut) for equation in made)
         words = set(re.split(r'[\s(),;{}]+', body))
-        used = [(place, [name for name in own if words & {name, name.strip('_')}]) for place, own in names.items()]
+        used = [(place, [name for name in own if words & {name, name.strip('◌')}]) for place, own in names.items()]
         uses = ['use %s.{%s}\n' % (place, ', '.join(own)) for place, own in used if own]
-        write(folder, 'crates/%s/specs/%s.antt' % (crate, notion_name), ''.join(uses) + body)
-    write(folder, 'crates/%s/specs/Lib.antt' % crate, ''.join('pub mod %s\n' % name for name in modules))
-    write(folder, 'crates/%s/src/lib.rt' % crate, '// Nothing.\n')
-    write(folder, 'crates.txt', '%s: %s\n' % (crate, ' '.join(CRATES + LIBRARIES)), 'a')
+        write(folder, 'crates/%s/proofs/%s.antt' % (crate, module(notion_name)), ''.join(uses) + body)
+    write(folder, 'crates/%s/proofs/Lib.antt' % crate, ''.join('mod %s\n' % module(name) for name in modules))
+    write(folder, 'crates/%s/src/lib.rt' % crate, '// Nothing.\n\n#![tactic(auto)]\n')
+    write(folder, 'crates.txt', '%s: %s\n' % (crate, ' '.join(CRATES)), 'a')
 
 
 def copy_crates(folder):
-    """The crates whose definitions are asked, with what is proved of them already (rt tells by their stamps)."""
+    """The crates whose definitions are asked. What a checkout on this machine has proved of them, rt takes from there."""
     lines = [text for text in open('crates.txt', encoding='utf8') if text.split(':')[0] in CRATES + NO_SPECS]
     write(folder, 'crates.txt', ''.join(lines))
     for crate in CRATES + NO_SPECS:
-        shutil.copytree('crates/' + crate, '%s/crates/%s' % (folder, crate))
-        if os.path.exists('target/stamp/' + crate) and os.path.isdir('target/rlib/%s.rlib' % crate):
-            shutil.copytree('target/rlib/%s.rlib' % crate, '%s/target/rlib/%s.rlib' % (folder, crate))
-            write(folder, 'target/stamp/' + crate, open('target/stamp/' + crate, encoding='utf8').read())
+        shutil.copytree('crates/' + crate, '%s/crates/%s' % (folder, crate),
+                        ignore=shutil.ignore_patterns('out', 'must-fail'))
 
 
-def check(folder, crates):
-    """Has rt prove crates: whether all are proved, the equations whose sides differ (one past the checker's step limit
-    is not told to differ), and what was said."""
-    ran = subprocess.run(['rt', 'check', *crates], cwd=folder, stdout=subprocess.PIPE, stderr=subprocess.STDOUT)
+def check(folder, at_once):
+    """Has rt prove the crates: whether all are proved, the equations whose sides differ (one past the checker's step
+    limit is not told to differ), and what was said."""
+    ran = subprocess.run(['rt', 'all', 'check', '--jobs', str(at_once)], cwd=folder, stdout=subprocess.PIPE,
+                         stderr=subprocess.STDOUT)
     said = ran.stdout.decode()
     blocks = [text for text in re.split(r'(?m)^(?=\S)', said) if 'the two types' in text and 'step limit' not in text]
     refused = {m[1] for m in (re.match(r'\S+antt:\d+:\d+: error: `([^`]+)`: ', text) for text in blocks) if m}
@@ -1240,15 +1244,16 @@ def run(asked, folder):
     copy_crates(folder)
     for i in range(parts):
         write_crate(folder, 'right_%d' % i, {name: made[i::parts] for name, made in right.items()})
-    write_crate(folder, 'wrong', wrong)
     print('equations written, %.0f s' % (time.time() - began), flush=True)
-    proved, refused, said = check(folder, ['right_%d' % i for i in range(parts)])
+    proved, refused, said = check(folder, parts)
     values = {name: sum(count for _, pairs in made for _, _, count in pairs) for name, made in right.items()}
     for name, made in right.items():
         print('%-20s %6d values of %4d equations' % (name, values[name], len(made)))
         print(''.join('    DIFFERS: %s\n' % equation for equation, _ in made if equation in refused), end='')
     changed = {equation for made in wrong.values() for equation, _ in made}
-    caught = check(folder, ['wrong'])[1] & changed if proved else set()
+    if proved:
+        write_crate(folder, 'wrong', wrong)
+    caught = check(folder, parts)[1] & changed if proved else set()
     print('' if proved else said, end='')
     print(''.join('NOT REFUSED: %s\n' % equation for equation in sorted(changed - caught) if proved), end='')
     print('%s: %d values of %d equations; %d of %d changed values refused; %.0f s' % (

@@ -69,6 +69,9 @@ CHANGES = [
     (r'zembrusha_gathered_commit\(', 'zembrusha_gather_commit('),
 ]
 
+# What stands over a struct that C has too.
+OF_C = r'#\[repr\(C\)\]\s*(?:#\[derive\([^)]*\)\]\s*)?'
+
 
 class Surface:
     """What a text declares: for each function its parameters and its result, for each struct its fields."""
@@ -141,11 +144,12 @@ def typed_surface(text, function, struct):
 
 
 def rattle_surface(text):
-    return typed_surface(text, r'#\[no_mangle\]\s*pub extern "C" fn (\w+)', r'#\[repr\(C\)\]\s*pub struct (\w+)')
+    exported = r'#\[unsafe\(no_mangle\)\]\s*pub extern "C" fn (\w+)'
+    return typed_surface(text, exported, OF_C + r'pub struct (\w+)')
 
 
 def rust_surface(text):
-    return typed_surface(text, r'fn (zembrusha_\w+)', r'#\[repr\(C\)\]\s*(?:#\[derive\([^)]*\)\]\s*)?struct (\w+)')
+    return typed_surface(text, r'fn (zembrusha_\w+)', OF_C + r'struct (\w+)')
 
 
 def archive_names(archive):

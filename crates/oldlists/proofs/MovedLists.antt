@@ -7,7 +7,7 @@ use Rattle.theory.specs.Refusals.{Check, first_of, no-20}
 use Rattle.theory.proofs.Refusals.Laws.{or-refused, or-given}
 use Rattle.words.specs.Answers.{Outcome}
 use Rattle.oldlists.specs.Lists.{ListAnswer, list_answer, first_bad, judged, moved}
-use Rattle.oldlists.specs.Lists.Laws.{lengths-fit}
+use Rattle.oldlists.proofs.Lists.Laws.{lengths-fit}
 
 -- ---- the lengths
 module _ (given lent : List ℕ) where

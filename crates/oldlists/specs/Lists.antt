@@ -8,7 +8,6 @@
 use Rattle.theory.specs.Basics.{List, [], ◌∷◌, map, ℕ, suc}
 use Rattle.theory.specs.Refusals.{Check, first_of, refused_or, no-20}
 pub use Rattle.oldlists.specs.declared.ListAnswer.{ListAnswer}
-pub mod Laws
 
 abbrev pub list_answer : ℕ → ℕ → ListAnswer
 list_answer k i = record { refused = k; index = i }

@@ -14,7 +14,7 @@ use Rattle.theory.specs.Limits.{degree_limit}
 use Rattle.theory.specs.Refusals.{first_of}
 use Rattle.text.specs.Text.{Text}
 use Rattle.textreading.specs.Reading.{lines_of, first_line}
-use Rattle.textreading.specs.Reading.Lines.{Next, next}
+use Rattle.textreading.proofs.Reading.Lines.{Next, next}
 use Rattle.pages.specs.declared.Budget.{Budget}
 use Rattle.pages.specs.Line.{Line}
 use Rattle.pages.specs.Page.{line_of, word_of}

@@ -21,7 +21,7 @@ use Rattle.theory.specs.Refusals.{first_of}
 use Rattle.text.specs.Text.{Text}
 use Rattle.textreading.specs.Reading.{before, lines_of, first_line}
 use Rattle.textreading.specs.Reading.Bytes.{before-take, before-fits}
-use Rattle.textreading.specs.Reading.Lines.{Next, next}
+use Rattle.textreading.proofs.Reading.Lines.{Next, next}
 use Rattle.pages.specs.Line.{Line}
 use Rattle.pages.specs.Page.{word_of, plain}
 use Rattle.pages.specs.Mode.{weighted, unit, words_of, weights_of}

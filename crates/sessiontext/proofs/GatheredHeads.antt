@@ -20,7 +20,7 @@ use Rattle.theory.specs.Refusals.Laws.{Numbered}
 use Rattle.theory.proofs.Refusals.Laws.{none-applies, first_below}
 use Rattle.text.specs.Text.{Text, ascii, decimal, field}
 use Rattle.textreading.specs.Reading.{number_in, integer_in, list_in, lines_of, first_line}
-use Rattle.textreading.specs.Reading.Lines.{Next, next}
+use Rattle.textreading.proofs.Reading.Lines.{Next, next}
 use Rattle.pages.specs.declared.Slip.{Slip}
 use Rattle.pages.specs.Page.{slip_of}
 use Rattle.sessiontext.specs.declared.reading.HeadRead.{HeadRead}

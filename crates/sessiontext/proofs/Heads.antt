@@ -17,7 +17,7 @@ use Rattle.theory.specs.Refusals.{Check, first_of}
 use Rattle.theory.proofs.Refusals.Laws.{none-applies}
 use Rattle.text.specs.Text.{Text, ascii, decimal, field}
 use Rattle.textreading.specs.Reading.{number_in, list_in, lines_of, first_line}
-use Rattle.textreading.specs.Reading.Lines.{Next}
+use Rattle.textreading.proofs.Reading.Lines.{Next}
 use Rattle.pages.specs.Page.{slip_of}
 use Rattle.sessiontext.specs.declared.numbers.NumberRead.{NumberRead}
 use Rattle.sessiontext.specs.declared.numbers.IntegerRead.{IntegerRead}

@@ -23,7 +23,7 @@ use Rattle.words.specs.Private.Reading.{list_checks}
 use Rattle.text.specs.Text.{Text, ascii, decimal, commas, list_text}
 use Rattle.text.specs.Text.Decimals.{one-digit, two_digits}
 use Rattle.textreading.specs.Reading.{first_line}
-use Rattle.textreading.specs.Reading.Lines.{Line, line_first}
+use Rattle.textreading.proofs.Reading.Lines.{Line, line_first}
 use Rattle.pages.specs.Page.{word_of, plain}
 use Rattle.sessiontext.specs.declared.straight.ListAt.{ListAt}
 use Rattle.sessiontext.specs.declared.straight.WordAt.{WordAt}

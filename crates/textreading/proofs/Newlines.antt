@@ -6,7 +6,7 @@ use native.Mathlib.Omega.{arith}
 use Rattle.theory.specs.Basics.{Bool, true, false, cond, List, [], ◌∷◌, ℕ, zero, suc, ◌+◌, length, get_or, ◌=?◌}
 use Rattle.text.specs.Text.{Text}
 use Rattle.textreading.specs.Reading.{in_front, lines_of}
-use Rattle.textreading.specs.Reading.Lines.{cut}
+use Rattle.textreading.proofs.Reading.Lines.{cut}
 
 abbrev pub newlines : Text → ℕ
 newlines [] = 0

@@ -19,7 +19,6 @@ use Rattle.text.specs.Text.{Text}
 pub mod Bytes
 pub mod Numbers
 pub mod Lists
-pub mod Lines
 
 abbrev pub is_digit : ℕ → Bool
 is_digit b = 48 ≤? b && b ≤? 57

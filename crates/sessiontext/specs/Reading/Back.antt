@@ -18,7 +18,7 @@ use Rattle.theory.specs.ClassWord.{class_of}
 use Rattle.text.specs.Text.{Text, ascii, decimal, integer, list_text, text_line, field}
 use Rattle.textreading.specs.Reading.{lines_of}
 use Rattle.textreading.specs.Reading.Bytes.{Without, without, each-not, decimal-within, integer-within, list-within}
-use Rattle.textreading.specs.Reading.Lines.{Line, text-line, lines-joined}
+use Rattle.textreading.proofs.Reading.Lines.{Line, text-line, lines-joined}
 use Rattle.pages.specs.Line.{Line as Waits}
 use Rattle.pages.specs.declared.Slip.{Slip}
 use Rattle.sessiontext.specs.SessionText.{Form, weighted_text, line_text_by, session_lines_by, session_text_by}

@@ -15,7 +15,7 @@ use Rattle.theory.proofs.ClassWord.Laws.{class-of-word, word_good}
 use Rattle.theory.specs.Refusals.Laws.{Within, WithinClass}
 use Rattle.text.specs.Text.{Text}
 use Rattle.textreading.specs.Reading.{before, lines_of}
-use Rattle.textreading.specs.Reading.Lines.{lines-whole}
+use Rattle.textreading.proofs.Reading.Lines.{lines-whole}
 use Rattle.sessiontext.specs.SessionText.{Form, weighted_text, line_text_by, session_lines_by, session_text_by}
 use Rattle.sessiontext.specs.SessionText.Faithful.{Faithful}
 use Rattle.sessiontext.specs.SessionText.Storable.{StorableLineBy}

@@ -9,7 +9,7 @@ use lib.Seq.{drop-cons}
 use borrow.Author.Tests.{eq-eqb, ne_eqb}
 use Rattle.theory.specs.Basics.{cond, List, ◌∷◌, ℕ, suc, ◌+◌, ◌-◌, length, get_or, drop, ◌=?◌}
 use Rattle.textreading.specs.Reading.{lines_of}
-use Rattle.textreading.specs.Reading.Lines.{lines-few}
+use Rattle.textreading.proofs.Reading.Lines.{lines-few}
 use Rattle.textreading.proofs.Newlines.{newlines, lines-newlines}
 use borrow.Author.Rules.{rules}
 use Rattle.textreading.proofs.line_count.Statement.{statement}

@@ -2,7 +2,7 @@
 use native.Mathlib.Omega.{arith}
 use borrow.Author.Tests.{not-true, not-false}
 use Rattle.theory.specs.Basics.{◌-◌, length}
-use Rattle.textreading.specs.Reading.Lines.{Next, next}
+use Rattle.textreading.proofs.Reading.Lines.{Next, next}
 use Rattle.sessiontext.proofs.CoefficientLines.{Faultless, faultless-none, faultless-all, faultless-fault}
 use Rattle.sessiontext.proofs.CoefficientLines.{faultless-next}
 use borrow.Author.Rules.{rules}

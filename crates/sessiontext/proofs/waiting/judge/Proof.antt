@@ -3,7 +3,7 @@
 use native.Mathlib.Omega.{arith}
 use borrow.Author.Tests.{not-true, not-false}
 use Rattle.theory.specs.Basics.{◌+◌, ◌-◌, length}
-use Rattle.textreading.specs.Reading.Lines.{Next, next}
+use Rattle.textreading.proofs.Reading.Lines.{Next, next}
 use Rattle.sessiontext.proofs.AllLines.{Judged, judged-none, judged-all, judged-fault, judged-next}
 use borrow.Author.Rules.{rules}
 use Rattle.sessiontext.proofs.waiting.judge.Statement.{statement}

@@ -7,7 +7,7 @@ use Rattle.text.specs.Text.Decimals.{integer-length}
 use Rattle.textreading.specs.Reading.{is_digit, integer_in}
 use Rattle.textreading.specs.Reading.Bytes.{each-not, wider, integer-within}
 use Rattle.textreading.specs.Reading.Numbers.{integer-back}
-use Rattle.textreading.specs.Reading.Lines.{text-line}
+use Rattle.textreading.proofs.Reading.Lines.{text-line}
 use Rattle.pages.specs.Lawful.Gathered.{gathered-lawful}
 use Rattle.sessiontext.specs.SessionText.{held, gathered_form}
 use Rattle.sessiontext.specs.SessionText.Faithful.{Faithful}

@@ -13,7 +13,7 @@ use Rattle.words.specs.Answers.{Outcome}
 use Rattle.words.specs.declared.NumberAnswer.{NumberAnswer}
 
 pub number_of : {a b : NumberAnswer} → mag a.number < 2 ^ 63 → a ≡ b → to_z w64 (of_z w64 a.number) ≡ b.number
-number_of h e = to_z-of_z (sfits_of h) ∙ ap (λ (x : NumberAnswer). x.number) e
+number_of h e = to_z-of_z {w = w64} (sfits_of h) ∙ ap (λ (x : NumberAnswer). x.number) e
 
 pub outcome-of : {A B C : Type 0} (f : A → B) {x : A × C} {a : A} {run : C} {r : B} → r ≡ f a → Outcome x a run
     → Outcome (f x.0, x.1) r run

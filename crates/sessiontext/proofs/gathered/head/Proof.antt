@@ -99,7 +99,7 @@ head_spec =
     head-requires
     in-mode-requires
     slice-aggregate-same
-        same-requires
+    same-requires
     returns
     add-t16
     returns-2

@@ -62,7 +62,7 @@ settled_spec =
     integer-in-requires
     returns
     slice-aggregate-integer
-        integer-requires
+    integer-requires
     array-share-prefix-own
     slice-aggregate-same
     same-requires

@@ -74,7 +74,7 @@ class_spec =
     slice-aggregate-class-in
     class-in-requires
     returns
-        array-share-prefix-parts
+    array-share-prefix-parts
     slice-aggregate-list-2
     slice-aggregate-list-3
     list-requires

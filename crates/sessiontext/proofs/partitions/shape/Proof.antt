@@ -103,7 +103,7 @@ shape_spec =
     slice-aggregate-shape-in
     shape-in-requires
     returns
-        array-share-prefix-parts
+    array-share-prefix-parts
     slice-aggregate-list-2
     slice-aggregate-list-3
     list-requires

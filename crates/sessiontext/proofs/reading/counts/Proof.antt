@@ -44,7 +44,7 @@ counts_spec =
     tie.close
     (tie.spec
     slice-aggregate-number
-        number-requires
+    number-requires
     array-share-prefix-own
     slice-aggregate-same
     same-requires

@@ -55,10 +55,10 @@ front_at_spec =
     sub_same
     part-same-start
     part-same-end
-        same-requires
+    same-requires
     returns-2
     sub-same-2
     part-same-start-2
     part-same-end-2
-        same-requires-2
+    same-requires-2
     returns-3)

@@ -53,7 +53,7 @@ pub line_spec : {M : Type 1} → statement M
 line_spec =
     tie.close
     (tie.spec
-        put-requires
+    put-requires
     integer-requires
     words-behind-requires
     same_length

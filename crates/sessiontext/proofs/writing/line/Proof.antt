@@ -46,7 +46,7 @@ pub line_spec : {M : Type 1} → statement M
 line_spec =
     tie.close
     (tie.spec
-        put-requires
+    put-requires
     minus-requires
     sign-requires
     words-behind-requires

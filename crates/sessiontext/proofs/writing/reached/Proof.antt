@@ -52,9 +52,9 @@ pub reached_spec : {M : Type 1} → statement M
 reached_spec =
     tie.close
     (tie.spec
-        cast-number
+    cast-number
     number-requires
-        integer-requires
-        number-requires-2
+    integer-requires
+    number-requires-2
     same_length
     returns)

@@ -6,22 +6,22 @@ use Rattle.zembrusha.proofs.HandedOn.{outcome-of}
 use Rattle.zembrusha.proofs.gatherings.zembrusha_gathered_open.Statement.{statement}
 use Rattle.zembrusha.proofs.gatherings.zembrusha_gathered_open.Tie as tie
 
-open-requires : tie.Need-open-requires
+open-requires : tie.Need-open-opened-requires
 open-requires c κs = search rules
 
-slip-out-requires : tie.Need-slip-out-requires
+slip-out-requires : tie.Need-slip_out-requires
 slip-out-requires c κs = search rules
 
-same_length : tie.Need-same-length
+same_length : tie.Need-shape_of-page
 same_length c = search rules
 
-same-length-2 : tie.Need-same-length-2
+same-length-2 : tie.Need-shape_of-coefficients
 same-length-2 c = search rules
 
 returns : tie.Need-returns
 returns c =
-    let o = c.before.before.before.before.before.open.ensures in
-    outcome-of (λ (h : Handed). handed_over h.refused h.slip) c.slip-out.ensures o
+    let o = c.open-opened.ensures in
+    outcome-of (λ (h : Handed). handed_over h.refused h.slip) c.slip_out.ensures o
 
-pub zembrusha-gathered-open-spec : {M : Type 1} → statement M
-zembrusha-gathered-open-spec = tie.close (tie.spec open-requires slip-out-requires same_length same-length-2 returns)
+pub zembrusha_gathered_open_spec : {M : Type 1} → statement M
+zembrusha_gathered_open_spec = tie.close (tie.spec open-requires slip-out-requires same_length same-length-2 returns)

@@ -7,7 +7,7 @@ use borrow.Author.Rules.{rules}
 use Rattle.zembrusha.proofs.gatherings.zembrusha_gathered_watch_ratio.Statement.{statement}
 use Rattle.zembrusha.proofs.gatherings.zembrusha_gathered_watch_ratio.Tie as tie
 
-slip-in-requires : tie.Need-slip-in-requires
+slip-in-requires : tie.Need-slip_in-own-requires
 slip-in-requires c κs = search rules
 
 watch-requires : tie.Need-watch-requires
@@ -18,9 +18,9 @@ ratio-requires c κs = search rules
 
 returns : tie.Need-returns
 returns c =
-    let watched = rw c.before.before.slip-in.ensures at c.before.watch.ensures in
+    let watched = rw c.slip_in-own.ensures at c.watch.ensures in
     c.ratio.ensures ∙ ap (λ (x : ℕ × Value). fraction x.1) watched
 
-pub zembrusha-gathered-watch-ratio-spec : {M : Type 1} → statement M
-zembrusha-gathered-watch-ratio-spec =
+pub zembrusha_gathered_watch_ratio_spec : {M : Type 1} → statement M
+zembrusha_gathered_watch_ratio_spec =
     tie.close (tie.spec slip-in-requires watch-requires ratio-requires returns)

@@ -6,7 +6,7 @@ use borrow.Author.Rules.{rules}
 use Rattle.zembrusha.proofs.gatherings.zembrusha_gathered_watch_refusal.Statement.{statement}
 use Rattle.zembrusha.proofs.gatherings.zembrusha_gathered_watch_refusal.Tie as tie
 
-slip-in-requires : tie.Need-slip-in-requires
+slip-in-requires : tie.Need-slip_in-own-requires
 slip-in-requires c κs = search rules
 
 watch-requires : tie.Need-watch-requires
@@ -17,9 +17,9 @@ refusal-requires c κs = search rules
 
 returns : tie.Need-returns
 returns c =
-    let watched = rw c.before.before.slip-in.ensures at c.before.watch.ensures in
+    let watched = rw c.slip_in-own.ensures at c.watch.ensures in
     c.refusal.ensures ∙ ap (λ (x : ℕ × Value). x.0) watched
 
-pub zembrusha-gathered-watch-refusal-spec : {M : Type 1} → statement M
-zembrusha-gathered-watch-refusal-spec =
+pub zembrusha_gathered_watch_refusal_spec : {M : Type 1} → statement M
+zembrusha_gathered_watch_refusal_spec =
     tie.close (tie.spec slip-in-requires watch-requires refusal-requires returns)

@@ -4,11 +4,11 @@ use borrow.Author.Rules.{rules}
 use Rattle.zembrusha.proofs.handing.slip_out.Statement.{statement}
 use Rattle.zembrusha.proofs.handing.slip_out.Tie as tie
 
-slip-over-requires : tie.Need-slip-over-requires
+slip-over-requires : tie.Need-slip_over-requires
 slip-over-requires c κs = search rules
 
 returns : tie.Need-returns
-returns c = rw c.slip-over.ensures refl
+returns c = rw c.slip_over.ensures refl
 
-pub slip-out-spec : {M : Type 1} → statement M
-slip-out-spec = tie.close (tie.spec slip-over-requires returns)
+pub slip_out_spec : {M : Type 1} → statement M
+slip_out_spec = tie.close (tie.spec slip-over-requires returns)

@@ -6,24 +6,24 @@ use Rattle.zembrusha.proofs.HandedOn.{outcome-of}
 use Rattle.zembrusha.proofs.plain.zembrusha_commit.Statement.{statement}
 use Rattle.zembrusha.proofs.plain.zembrusha_commit.Tie as tie
 
-slip-in-requires : tie.Need-slip-in-requires
+slip-in-requires : tie.Need-slip_in-own-requires
 slip-in-requires c κs = search rules
 
-commit-requires : tie.Need-commit-requires
+commit-requires : tie.Need-commit-committed-requires
 commit-requires c κs = search rules
 
-slip-out-requires : tie.Need-slip-out-requires
+slip-out-requires : tie.Need-slip_out-requires
 slip-out-requires c κs = search rules
 
-same_length : tie.Need-same-length
+same_length : tie.Need-shape_of-page
 same_length c = search rules
 
 returns : tie.Need-returns
 returns c =
-    let a = c.before.before.before.before in
-    let o = rw a.before.before.slip-in.ensures at a.commit.ensures in
-    outcome-of (λ (h : Handed). handed_over h.refused h.slip) c.slip-out.ensures o
+    let a = c in
+    let o = rw a.slip_in-own.ensures at a.commit-committed.ensures in
+    outcome-of (λ (h : Handed). handed_over h.refused h.slip) c.slip_out.ensures o
 
-pub zembrusha-commit-spec : {M : Type 1} → statement M
-zembrusha-commit-spec =
+pub zembrusha_commit_spec : {M : Type 1} → statement M
+zembrusha_commit_spec =
     tie.close (tie.spec slip-in-requires commit-requires slip-out-requires same_length returns)

@@ -6,19 +6,19 @@ use Rattle.zembrusha.proofs.HandedOn.{outcome-of}
 use Rattle.zembrusha.proofs.plain.zembrusha_open.Statement.{statement}
 use Rattle.zembrusha.proofs.plain.zembrusha_open.Tie as tie
 
-open-requires : tie.Need-open-requires
+open-requires : tie.Need-open-opened-requires
 open-requires c κs = search rules
 
-slip-out-requires : tie.Need-slip-out-requires
+slip-out-requires : tie.Need-slip_out-requires
 slip-out-requires c κs = search rules
 
-same_length : tie.Need-same-length
+same_length : tie.Need-shape_of-page
 same_length c = search rules
 
 returns : tie.Need-returns
 returns c =
-    let o = c.before.before.before.before.open.ensures in
-    outcome-of (λ (h : Handed). handed_over h.refused h.slip) c.slip-out.ensures o
+    let o = c.open-opened.ensures in
+    outcome-of (λ (h : Handed). handed_over h.refused h.slip) c.slip_out.ensures o
 
-pub zembrusha-open-spec : {M : Type 1} → statement M
-zembrusha-open-spec = tie.close (tie.spec open-requires slip-out-requires same_length returns)
+pub zembrusha_open_spec : {M : Type 1} → statement M
+zembrusha_open_spec = tie.close (tie.spec open-requires slip-out-requires same_length returns)

@@ -6,7 +6,7 @@ use borrow.Author.Rules.{rules}
 use Rattle.zembrusha.proofs.plain.zembrusha_watch_refusal.Statement.{statement}
 use Rattle.zembrusha.proofs.plain.zembrusha_watch_refusal.Tie as tie
 
-slip-in-requires : tie.Need-slip-in-requires
+slip-in-requires : tie.Need-slip_in-requires
 slip-in-requires c κs = search rules
 
 watch-requires : tie.Need-watch-requires
@@ -17,9 +17,9 @@ refusal-requires c κs = search rules
 
 returns : tie.Need-returns
 returns c =
-    let watched = rw c.before.before.slip-in.ensures at c.before.watch.ensures in
+    let watched = rw c.slip_in.ensures at c.watch.ensures in
     c.refusal.ensures ∙ ap (λ (x : ℕ × Value). x.0) watched
 
-pub zembrusha-watch-refusal-spec : {M : Type 1} → statement M
-zembrusha-watch-refusal-spec =
+pub zembrusha_watch_refusal_spec : {M : Type 1} → statement M
+zembrusha_watch_refusal_spec =
     tie.close (tie.spec slip-in-requires watch-requires refusal-requires returns)

@@ -1,4 +1,5 @@
 -- `zembrusha::plain::zembrusha_watch_whole` meets its contract: it hands on what the call answers.
+use mir.Syntax.{w64}
 use mathlib.Core.Path.{◌∙◌, ap}
 use Prim.Native.Nat.{ℕ}
 use mir.Facts.{to_z-of_z}
@@ -8,7 +9,7 @@ use borrow.Author.Rules.{rules}
 use Rattle.zembrusha.proofs.plain.zembrusha_watch_whole.Statement.{statement}
 use Rattle.zembrusha.proofs.plain.zembrusha_watch_whole.Tie as tie
 
-slip-in-requires : tie.Need-slip-in-requires
+slip-in-requires : tie.Need-slip_in-requires
 slip-in-requires c κs = search rules
 
 watch-requires : tie.Need-watch-requires
@@ -19,9 +20,9 @@ whole-requires c κs = search rules
 
 returns : tie.Need-returns
 returns c =
-    let watched = rw c.before.before.slip-in.ensures at c.before.watch.ensures in
-    to_z-of_z (record { sfits = c.whole.type-inv }) ∙ c.whole.ensures ∙ ap (λ (x : ℕ × Value). number x.1) watched
+    let watched = rw c.slip_in.ensures at c.watch.ensures in
+    to_z-of_z {w = w64} (record { sfits = c.whole.type_inv }) ∙ c.whole.ensures ∙ ap (λ (x : ℕ × Value). number x.1) watched
 
-pub zembrusha-watch-whole-spec : {M : Type 1} → statement M
-zembrusha-watch-whole-spec =
+pub zembrusha_watch_whole_spec : {M : Type 1} → statement M
+zembrusha_watch_whole_spec =
     tie.close (tie.spec slip-in-requires watch-requires whole-requires returns)

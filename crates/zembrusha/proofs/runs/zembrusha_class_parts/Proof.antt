@@ -8,15 +8,15 @@ use Rattle.zembrusha.proofs.runs.zembrusha_class_parts.Tie as tie
 parts-requires : tie.Need-parts-requires
 parts-requires c κs = search rules
 
-of-count-requires : tie.Need-of-count-requires
+of-count-requires : tie.Need-of_count-requires
 of-count-requires c κs = search rules
 
-same_length : tie.Need-same-length
+same_length : tie.Need-shape_of-column
 same_length c = search rules
 
 returns : tie.Need-returns
-returns c = outcome-of of_count c.of-count.ensures c.before.before.before.parts.ensures
+returns c = outcome-of of_count c.of_count.ensures c.parts.ensures
 
-pub zembrusha-class-parts-spec : {M : Type 1} → statement M
-zembrusha-class-parts-spec =
+pub zembrusha_class_parts_spec : {M : Type 1} → statement M
+zembrusha_class_parts_spec =
     tie.close (tie.spec parts-requires of-count-requires same_length returns)

@@ -5,18 +5,18 @@ use Rattle.zembrusha.proofs.HandedOn.{outcome-of}
 use Rattle.zembrusha.proofs.runs.zembrusha_shapes_to_old.Statement.{statement}
 use Rattle.zembrusha.proofs.runs.zembrusha_shapes_to_old.Tie as tie
 
-to-old-requires : tie.Need-to-old-requires
+to-old-requires : tie.Need-to_old-requires
 to-old-requires c κs = search rules
 
-of-list-requires : tie.Need-of-list-requires
+of-list-requires : tie.Need-of_list-requires
 of-list-requires c κs = search rules
 
-same_length : tie.Need-same-length
+same_length : tie.Need-shape_of-old
 same_length c = search rules
 
 returns : tie.Need-returns
-returns c = outcome-of of_list c.of-list.ensures c.before.before.before.to-old.ensures
+returns c = outcome-of of_list c.of_list.ensures c.to_old.ensures
 
-pub zembrusha-shapes-to-old-spec : {M : Type 1} → statement M
-zembrusha-shapes-to-old-spec =
+pub zembrusha_shapes_to_old_spec : {M : Type 1} → statement M
+zembrusha_shapes_to_old_spec =
     tie.close (tie.spec to-old-requires of-list-requires same_length returns)

@@ -8,7 +8,7 @@ character-requires : tie.Need-character-requires
 character-requires c κs = search rules
 
 returns : tie.Need-returns
-returns c = number_of c.struct_told.given.1.0.1 c.before.character.ensures
+returns c = number_of c.struct_told-1.given.1.0.1 c.character.ensures
 
-pub zembrusha-character-spec : {M : Type 1} → statement M
-zembrusha-character-spec = tie.close (tie.spec character-requires returns)
+pub zembrusha_character_spec : {M : Type 1} → statement M
+zembrusha_character_spec = tie.close (tie.spec character-requires returns)

@@ -8,11 +8,11 @@ use Rattle.zembrusha.proofs.singles.zembrusha_character_refusal.Tie as tie
 character-requires : tie.Need-character-requires
 character-requires c κs = search rules
 
-cast-result : tie.Need-overflow-cast-result
+cast-result : tie.Need-overflow_cast-result
 cast-result c = search rules
 
 returns : tie.Need-returns
-returns c = ap (λ (answer : NumberAnswer). answer.refused) c.before.character.ensures
+returns c = ap (λ (answer : NumberAnswer). answer.refused) c.character.ensures
 
-pub zembrusha-character-refusal-spec : {M : Type 1} → statement M
-zembrusha-character-refusal-spec = tie.close (tie.spec character-requires cast-result returns)
+pub zembrusha_character_refusal_spec : {M : Type 1} → statement M
+zembrusha_character_refusal_spec = tie.close (tie.spec character-requires cast-result returns)

@@ -10,12 +10,12 @@ period-requires c κs = search rules
 
 returns : tie.Need-returns
 returns c =
-    let told = c.before.period in
+    let told = c.period in
     record {
       answer = told.result;
       promised = told.ensures;
-      number = number_of {a = told.result} c.struct_told.given.1.0.1 refl;
+      number = number_of {a = told.result} c.struct_told-1.given.1.0.1 refl;
     }
 
-pub zembrusha-class-period-spec : {M : Type 1} → statement M
-zembrusha-class-period-spec = tie.close (tie.spec period-requires returns)
+pub zembrusha_class_period_spec : {M : Type 1} → statement M
+zembrusha_class_period_spec = tie.close (tie.spec period-requires returns)

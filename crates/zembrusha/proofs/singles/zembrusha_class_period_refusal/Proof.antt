@@ -8,11 +8,11 @@ use Rattle.zembrusha.proofs.singles.zembrusha_class_period_refusal.Tie as tie
 period-requires : tie.Need-period-requires
 period-requires c κs = search rules
 
-cast-result : tie.Need-overflow-cast-result
+cast-result : tie.Need-overflow_cast-result
 cast-result c = search rules
 
 returns : tie.Need-returns
-returns c = period-refusal degree_limit _ _ c.before.period.ensures
+returns c = period-refusal degree_limit _ _ c.period.ensures
 
-pub zembrusha-class-period-refusal-spec : {M : Type 1} → statement M
-zembrusha-class-period-refusal-spec = tie.close (tie.spec period-requires cast-result returns)
+pub zembrusha_class_period_refusal_spec : {M : Type 1} → statement M
+zembrusha_class_period_refusal_spec = tie.close (tie.spec period-requires cast-result returns)

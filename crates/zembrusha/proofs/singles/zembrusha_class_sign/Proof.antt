@@ -8,7 +8,7 @@ sign-requires : tie.Need-sign-requires
 sign-requires c κs = search rules
 
 returns : tie.Need-returns
-returns c = number_of c.struct_told.given.1.0.1 c.before.sign.ensures
+returns c = number_of c.struct_told-1.given.1.0.1 c.sign.ensures
 
-pub zembrusha-class-sign-spec : {M : Type 1} → statement M
-zembrusha-class-sign-spec = tie.close (tie.spec sign-requires returns)
+pub zembrusha_class_sign_spec : {M : Type 1} → statement M
+zembrusha_class_sign_spec = tie.close (tie.spec sign-requires returns)

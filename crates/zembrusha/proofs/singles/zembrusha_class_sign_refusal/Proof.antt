@@ -8,11 +8,11 @@ use Rattle.zembrusha.proofs.singles.zembrusha_class_sign_refusal.Tie as tie
 sign-requires : tie.Need-sign-requires
 sign-requires c κs = search rules
 
-cast-result : tie.Need-overflow-cast-result
+cast-result : tie.Need-overflow_cast-result
 cast-result c = search rules
 
 returns : tie.Need-returns
-returns c = ap (λ (answer : NumberAnswer). answer.refused) c.before.sign.ensures
+returns c = ap (λ (answer : NumberAnswer). answer.refused) c.sign.ensures
 
-pub zembrusha-class-sign-refusal-spec : {M : Type 1} → statement M
-zembrusha-class-sign-refusal-spec = tie.close (tie.spec sign-requires cast-result returns)
+pub zembrusha_class_sign_refusal_spec : {M : Type 1} → statement M
+zembrusha_class_sign_refusal_spec = tie.close (tie.spec sign-requires cast-result returns)

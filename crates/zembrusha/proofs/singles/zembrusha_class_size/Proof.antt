@@ -8,7 +8,7 @@ size-requires : tie.Need-size-requires
 size-requires c κs = search rules
 
 returns : tie.Need-returns
-returns c = number_of c.struct_told.given.1.0.1 c.before.size.ensures
+returns c = number_of c.struct_told-1.given.1.0.1 c.size.ensures
 
-pub zembrusha-class-size-spec : {M : Type 1} → statement M
-zembrusha-class-size-spec = tie.close (tie.spec size-requires returns)
+pub zembrusha_class_size_spec : {M : Type 1} → statement M
+zembrusha_class_size_spec = tie.close (tie.spec size-requires returns)

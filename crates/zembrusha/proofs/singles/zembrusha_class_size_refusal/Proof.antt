@@ -8,11 +8,11 @@ use Rattle.zembrusha.proofs.singles.zembrusha_class_size_refusal.Tie as tie
 size-requires : tie.Need-size-requires
 size-requires c κs = search rules
 
-cast-result : tie.Need-overflow-cast-result
+cast-result : tie.Need-overflow_cast-result
 cast-result c = search rules
 
 returns : tie.Need-returns
-returns c = ap (λ (answer : NumberAnswer). answer.refused) c.before.size.ensures
+returns c = ap (λ (answer : NumberAnswer). answer.refused) c.size.ensures
 
-pub zembrusha-class-size-refusal-spec : {M : Type 1} → statement M
-zembrusha-class-size-refusal-spec = tie.close (tie.spec size-requires cast-result returns)
+pub zembrusha_class_size_refusal_spec : {M : Type 1} → statement M
+zembrusha_class_size_refusal_spec = tie.close (tie.spec size-requires cast-result returns)

@@ -11,5 +11,5 @@ conjugate-requires c κs = search rules
 returns : tie.Need-returns
 returns c = ap (λ (answer : WordAnswer). answer.word) c.conjugate.ensures
 
-pub zembrusha-conjugate-spec : {M : Type 1} → statement M
-zembrusha-conjugate-spec = tie.close (tie.spec conjugate-requires returns)
+pub zembrusha_conjugate_spec : {M : Type 1} → statement M
+zembrusha_conjugate_spec = tie.close (tie.spec conjugate-requires returns)

@@ -8,11 +8,11 @@ use Rattle.zembrusha.proofs.singles.zembrusha_conjugate_refusal.Tie as tie
 conjugate-requires : tie.Need-conjugate-requires
 conjugate-requires c κs = search rules
 
-cast-result : tie.Need-overflow-cast-result
+cast-result : tie.Need-overflow_cast-result
 cast-result c = search rules
 
 returns : tie.Need-returns
-returns c = ap (λ (answer : WordAnswer). answer.refused) c.before.conjugate.ensures
+returns c = ap (λ (answer : WordAnswer). answer.refused) c.conjugate.ensures
 
-pub zembrusha-conjugate-refusal-spec : {M : Type 1} → statement M
-zembrusha-conjugate-refusal-spec = tie.close (tie.spec conjugate-requires cast-result returns)
+pub zembrusha_conjugate_refusal_spec : {M : Type 1} → statement M
+zembrusha_conjugate_refusal_spec = tie.close (tie.spec conjugate-requires cast-result returns)

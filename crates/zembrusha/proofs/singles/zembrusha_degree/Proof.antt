@@ -8,7 +8,7 @@ degree-requires : tie.Need-degree-requires
 degree-requires c κs = search rules
 
 returns : tie.Need-returns
-returns c = number_of c.struct_told.given.1.0.1 c.before.degree.ensures
+returns c = number_of c.struct_told-1.given.1.0.1 c.degree.ensures
 
-pub zembrusha-degree-spec : {M : Type 1} → statement M
-zembrusha-degree-spec = tie.close (tie.spec degree-requires returns)
+pub zembrusha_degree_spec : {M : Type 1} → statement M
+zembrusha_degree_spec = tie.close (tie.spec degree-requires returns)

@@ -8,11 +8,11 @@ use Rattle.zembrusha.proofs.singles.zembrusha_degree_refusal.Tie as tie
 degree-requires : tie.Need-degree-requires
 degree-requires c κs = search rules
 
-cast-result : tie.Need-overflow-cast-result
+cast-result : tie.Need-overflow_cast-result
 cast-result c = search rules
 
 returns : tie.Need-returns
-returns c = ap (λ (answer : NumberAnswer). answer.refused) c.before.degree.ensures
+returns c = ap (λ (answer : NumberAnswer). answer.refused) c.degree.ensures
 
-pub zembrusha-degree-refusal-spec : {M : Type 1} → statement M
-zembrusha-degree-refusal-spec = tie.close (tie.spec degree-requires cast-result returns)
+pub zembrusha_degree_refusal_spec : {M : Type 1} → statement M
+zembrusha_degree_refusal_spec = tie.close (tie.spec degree-requires cast-result returns)

@@ -8,11 +8,11 @@ use Rattle.zembrusha.proofs.singles.zembrusha_good_shape.Tie as tie
 good-requires : tie.Need-good-requires
 good-requires c κs = search rules
 
-of-good-requires : tie.Need-of-good-requires
+of-good-requires : tie.Need-of_good-requires
 of-good-requires c κs = search rules
 
 returns : tie.Need-returns
-returns c = c.of-good.ensures ∙ ap of_good c.before.good2.ensures
+returns c = c.of_good.ensures ∙ ap of_good c.good.ensures
 
-pub zembrusha-good-shape-spec : {M : Type 1} → statement M
-zembrusha-good-shape-spec = tie.close (tie.spec good-requires of-good-requires returns)
+pub zembrusha_good_shape_spec : {M : Type 1} → statement M
+zembrusha_good_shape_spec = tie.close (tie.spec good-requires of-good-requires returns)

@@ -1,14 +1,15 @@
 -- The hook lines of a line, by those of the same line without its coefficient (document 02, P7, "Each hook brings the
 -- chosen line's coefficient times its own sign"); and that no two of them are equal, nor one to the line itself.
 --   waiting_of cycle l   the hooks of l that do not leave the empty shape
+use Rattle.std.specs.Prelude.{◌∷◌, ◌*ℤ◌}
 use mathlib.Core.Path.{◌≡◌, refl, sym, ◌∙◌, ap}
 use mathlib.Core.Bool.{false≢true}
 use mathlib.Core.List.{map-map}
 use native.Mathlib.Omega.{arith}
 use borrow.Author.Tests.{ne_eqb}
 use lib.Signed.{non_neg}
-use Rattle.theory.specs.Basics.{Bool, true, false, not, List, [], ◌∷◌, map, ℕ}
-use Rattle.theory.specs.Basics.{pos, ◌*ℤ◌, nat_abs, signed, ◌=?◌, keep, every, sum, Each}
+use Rattle.theory.specs.Basics.{Bool, true, false, not, List, [], map, ℕ}
+use Rattle.theory.specs.Basics.{pos, nat_abs, signed, ◌=?◌, keep, every, sum, Each}
 use Rattle.theory.proofs.Basics.Laws.{each_same, each_member, map_same, sum_same, sum-map}
 use Rattle.theory.proofs.Basics.Keep.{each-every, each-kept, keep-map}
 use Rattle.theory.proofs.Basics.Integers.Products.{times-sums, times-signed, times-one}

@@ -1,7 +1,8 @@
 -- How a list's move answers: refused for the lengths, refused for a word, or moved.
+use Rattle.std.specs.Prelude.{◌∷◌}
 use mathlib.Core.Path.{◌≡◌, refl, sym, ◌∙◌, ap}
 use borrow.Author.Tests.{eq-eqb, ne_eqb, lt-leb, ltb-true, ltb-false}
-use Rattle.theory.specs.Basics.{true, false, List, [], ◌∷◌, map, length, ℕ, ◌<?◌}
+use Rattle.theory.specs.Basics.{true, false, List, [], map, length, ℕ, ◌<?◌}
 use Rattle.theory.specs.Limits.{list_limit}
 use Rattle.theory.specs.Refusals.{Check, first_of, no-20}
 use Rattle.theory.proofs.Refusals.Laws.{or-refused, or-given}

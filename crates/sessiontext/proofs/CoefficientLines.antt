@@ -1,6 +1,7 @@
 -- Waiting lines with coefficients that are read off a text: one line, told by comparing, and loops over them.
 --   Faultless ..   the lines in front of `at` are of their form
 --   Down ..        the lines in front of `at` are put down
+use Rattle.std.specs.Prelude.{◌&&◌, ◌∷◌, ◌+◌, ◌-◌, ◌*◌, ◌/◌, ◌%◌, ◌^◌}
 use mathlib.Core.Path.{◌≡◌, refl, sym, ◌∙◌, ap, ap₂, subst}
 use mathlib.Core.Bool.{false≢true}
 use Prim.Native.Nat.{◌≤◌, ◌<◌}
@@ -9,7 +10,7 @@ use native.Mathlib.Numerals.{add-one}
 use native.Mathlib.Omega.{arith}
 use lib.ListN.{set, length-set, drop_of_length-le}
 use lib.Seq.{sets}
-use Rattle.theory.specs.Basics.{Bool, true, false, ◌&&◌, List, ◌∷◌, ℕ, ◌+◌, ◌-◌, ◌*◌, ◌/◌, ◌%◌, ◌^◌, ℤ, length}
+use Rattle.theory.specs.Basics.{Bool, true, false, List, ℕ, ℤ, length}
 use Rattle.theory.specs.Basics.{take, drop, Each}
 use Rattle.theory.proofs.Basics.Keep.{same_test}
 use Rattle.theory.proofs.Basics.Laws.{both}

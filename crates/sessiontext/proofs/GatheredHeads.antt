@@ -1,12 +1,13 @@
 -- The first seven lines of a gathered session's text: the mode's, and six that are read as those of a plain session.
 --   raised checks      the checks, each with the next number
 --   heads_from n body   the checks of the six lines of a body, with n lines in front of it; slip_from, the slip
+use Rattle.std.specs.Prelude.{◌&&◌, ◌∷◌, ◌+◌, ◌-◌, ◌^◌}
 use mathlib.Core.Path.{◌≡◌, refl, sym, ◌∙◌, ap}
 use Prim.Native.Nat.{◌≤◌, ◌<◌}
 use native.Mathlib.Omega.{arith}
 use lib.ListN.{length-drop}
 use lib.Seq.{drop-drop, take_all}
-use Rattle.theory.specs.Basics.{Bool, true, false, not, ◌&&◌, cond, List, [], ◌∷◌, ℕ, suc, ◌+◌, ◌-◌, ◌^◌, pos, ◌=?◌}
+use Rattle.theory.specs.Basics.{Bool, true, false, not, cond, List, [], ℕ, suc, pos, ◌=?◌}
 use Rattle.theory.specs.Basics.{length}
 use Rattle.theory.specs.Basics.{get_or, take, drop, same, Each}
 use Rattle.theory.proofs.Basics.Keep.{same_test}

@@ -1,4 +1,5 @@
 -- Lines with coefficients that are put down: exactly they are judged, and zeros go behind them.
+use Rattle.std.specs.Prelude.{◌&&◌, ◌∷◌, ◌++◌, ◌-◌}
 use mathlib.Core.Path.{◌≡◌, refl, sym, ◌∙◌, ap, ap₂}
 use mathlib.Core.List.{append-nil}
 use Prim.Native.Nat.{◌≤◌, ◌<◌}
@@ -6,8 +7,8 @@ use native.Mathlib.Omega.{arith}
 use lib.ListN.{length-map}
 use lib.Seq.{length-sets}
 use borrow.Author.Tests.{eq-eqb, le-leb}
-use Rattle.theory.specs.Basics.{Bool, true, false, ◌&&◌, List, [], ◌∷◌, ◌++◌, map, length, take, replicate}
-use Rattle.theory.specs.Basics.{ℕ, ◌-◌, ℤ, pos, ◌=?◌, Each}
+use Rattle.theory.specs.Basics.{Bool, true, false, List, [], map, length, take, replicate}
+use Rattle.theory.specs.Basics.{ℕ, ℤ, pos, ◌=?◌, Each}
 use Rattle.theory.proofs.Basics.Laws.{each_map}
 use Rattle.theory.specs.Digits.{width}
 use Rattle.theory.specs.Limits.{degree_limit, page_limit}

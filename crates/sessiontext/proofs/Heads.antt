@@ -1,5 +1,6 @@
 -- The first six lines of a text: where they start and end, and what the readers of each tell together.
 --   Six text a b c d e f   the six lines end at these places
+use Rattle.std.specs.Prelude.{◌&&◌, ◌∷◌, ◌+◌, ◌-◌}
 use mathlib.Core.Path.{◌≡◌, refl, sym, ◌∙◌, ap}
 use Prim.Native.Nat.{◌≤◌, ◌<◌}
 use native.Mathlib.Decide.{dec_le}
@@ -8,7 +9,7 @@ use native.Mathlib.Omega.{arith}
 use lib.ListN.{length-drop, drop_of_length-le}
 use lib.Seq.{drop-drop, get_or-drop, take_all}
 use borrow.Author.Tests.{not-false}
-use Rattle.theory.specs.Basics.{Bool, true, false, not, ◌&&◌, List, [], ◌∷◌, ℕ, ◌+◌, ◌-◌, length, get_or, take, drop}
+use Rattle.theory.specs.Basics.{Bool, true, false, not, List, [], ℕ, length, get_or, take, drop}
 use Rattle.theory.specs.Basics.{◌=?◌, same, Each}
 use Rattle.theory.proofs.Basics.Laws.{same_lists}
 use Rattle.theory.specs.Partition.{degree}

@@ -8,14 +8,14 @@
 --   loaded-text        a text that is loaded is the text of the session that it gives, which is sound
 --   load-then-save     and is what a save gives of it
 --   refused-load       a load that is refused leaves what it was lent
-use Rattle.std.specs.Prelude.{◌≡◌, ◌≤◌, ◌<◌}
+use Rattle.std.specs.Prelude.{◌≡◌, ◌≤◌, ◌<◌, ◌∷◌, ◌++◌, ◌+◌, ◌*◌}
 use Rattle.std.proofs.Math.Path.{refl, sym}
 use Rattle.std.proofs.Common.{◌∙◌, ap, le_refl, arith}
 use Rattle.std.proofs.Math.Nat.{mul-le-mul}
 use Rattle.std.proofs.lemmas.List.{length-map}
 use Rattle.std.proofs.Math.Seq.{take-append_seam}
 use borrow.Author.Tests.{ltb-false, le-ltb, eqb-true, not-false}
-use Rattle.theory.specs.Basics.{Bool, true, false, cond, List, [], ◌∷◌, ◌++◌, length, take, ℕ, ◌+◌, ◌*◌}
+use Rattle.theory.specs.Basics.{Bool, true, false, cond, List, [], length, take, ℕ}
 use Rattle.theory.specs.Basics.{zero, suc, ◌=?◌, Each}
 use Rattle.theory.proofs.Basics.Laws.{both, each_map}
 use Rattle.theory.specs.Digits.{width}

@@ -1,9 +1,9 @@
 -- A text with no line at fault is exactly the text of what it is read as: one session has one text.
-use Rattle.std.specs.Prelude.{◌≡◌, ◌<◌}
+use Rattle.std.specs.Prelude.{◌≡◌, ◌<◌, ◌∷◌, ◌++◌}
 use Rattle.std.proofs.Math.Path.{refl, sym, ap}
 use Rattle.std.proofs.Common.{◌∙◌, ap₂, arith}
 use Rattle.std.proofs.Math.ListN.{length-map}
-use Rattle.theory.specs.Basics.{true, List, [], ◌∷◌, ◌++◌, map, length, get_or, drop, ℕ, suc, joined, Each}
+use Rattle.theory.specs.Basics.{true, List, [], map, length, get_or, drop, ℕ, suc, joined, Each}
 use Rattle.theory.specs.Partition.{Parts}
 use Rattle.theory.specs.Digits.{width}
 use Rattle.theory.specs.ShapeWord.{shape_word, shape_of}

@@ -1,8 +1,9 @@
 -- `oldlists::forms::moved` meets its contract: refused for the lengths or for a word, or each word is written.
+use Rattle.std.specs.Prelude.{◌∷◌}
 use mathlib.Core.Logic.{⊎_elim}
 use mathlib.Core.Path.{◌≡◌, sym, ap, ◌∙◌}
 use borrow.Author.Rules.{rules}
-use Rattle.theory.specs.Basics.{Bool, List, [], ◌∷◌, ℕ}
+use Rattle.theory.specs.Basics.{Bool, List, [], ℕ}
 use Rattle.theory.specs.Limits.{degree_limit}
 use Rattle.theory.specs.Refusals.{first_of, no-20}
 use Rattle.oldlists.specs.Lists.{ListAnswer}

@@ -17,8 +17,8 @@ fail.
     python3 tools/values.py --only commits,watches --seed 7    some notions, other random cases
     python3 tools/values.py --keep DIR       leave the equations in DIR, to be read
 
-Without options it compares some 66,000 values of 4,400 equations, on as many cores as there are up to four: in minutes,
-and in longer where the crates have to be proved first.
+Without options it compares some 66,000 values of 4,400 equations, in 260 seconds of processor time on as many cores as
+there are up to four (four minutes were seen on two busy ones); longer where the crates have to be proved first.
 
 It is run by hand, and is no part of the gate. The exit status is 0 only if every value agrees and every changed one is
 refused. It needs Python 3 and `rt`. For a new definition write one more function with @notion in front, which yields

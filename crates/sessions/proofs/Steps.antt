@@ -1,10 +1,11 @@
 -- From the tests of a line and a cycle that are named to the class that is left.
 --   Chosen .. r     what the class left r tells, if it does not refuse
+use Rattle.std.specs.Prelude.{◌∷◌}
 use mathlib.Core.Path.{◌≡◌, refl, sym, ◌∙◌, ap}
 use Prim.Native.Nat.{◌≤◌, ◌<◌}
 use native.Mathlib.Omega.{arith}
 use borrow.Author.Tests.{le-leb, lt-leb, not-false, not-true}
-use Rattle.theory.specs.Basics.{Bool, true, false, not, List, [], ◌∷◌, get_or, ℕ, ◌=?◌}
+use Rattle.theory.specs.Basics.{Bool, true, false, not, List, [], get_or, ℕ, ◌=?◌}
 use Rattle.theory.specs.Partition.{times, without}
 use Rattle.theory.specs.ClassWord.{class_word, class_of}
 use Rattle.theory.specs.Refusals.{Check, first_of, no-8, no_9}

@@ -1,12 +1,12 @@
 -- What a commit keeps, accepted or refused, on any sound slip and page, whoever wrote it, in any mode.
 --   Leads m limit s x k t y   with k steps that count, slip s and x, which is lent, become the sound slip t and y,
 --                             worth the same, of the same shape and class, on a page of the same length
-use Rattle.std.specs.Prelude.{◌≡◌}
+use Rattle.std.specs.Prelude.{◌≡◌, ◌+◌, ◌+ℤ◌}
 use Rattle.std.proofs.Math.Path.{refl}
 use Rattle.std.proofs.Common.{sym, ◌∙◌, ap}
 use Rattle.std.proofs.Math.Dec.{eqb-suc-zero}
 use Rattle.std.proofs.Math.IntN.{+ℤ_assoc, +ℤ_idr}
-use Rattle.theory.specs.Basics.{cond, List, length, ℕ, zero, suc, ◌+◌, pos, ◌+ℤ◌, ◌=?◌}
+use Rattle.theory.specs.Basics.{cond, List, length, ℕ, zero, suc, pos, ◌=?◌}
 use Rattle.theory.specs.Limits.{degree_limit}
 use Rattle.theory.specs.Refusals.{first_of}
 use Rattle.words.specs.Answers.{Outcome}

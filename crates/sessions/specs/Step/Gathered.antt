@@ -7,13 +7,13 @@
 --   others-kept              so for every shape and class but the struck line's; struck-gone, of that nothing waits
 --   column-joined            so in the column, beside a line that was there before and was not struck
 --   column-new               beside a line that is new stands what the hooks bring
-use Rattle.std.specs.Prelude.{◌≡◌, ◌<◌}
+use Rattle.std.specs.Prelude.{◌≡◌, ◌<◌, ◌∷◌, ◌++◌, ◌+ℤ◌, ◌-ℤ◌}
 use Rattle.std.proofs.Math.Path.{refl, ap}
 use Rattle.std.proofs.Common.{sym, ◌∙◌, ap₂, arith, eqb-true}
 use Rattle.std.proofs.Math.IntN.{+ℤ_idl, +ℤ_idr, +ℤ_invr, +ℤ-neg_ℤ_cancel}
 use Rattle.std.proofs.Math.Seq.{split_at}
-use Rattle.theory.specs.Basics.{Bool, true, false, not, List, [], ◌∷◌, ◌++◌, length, get_or, take, drop, ℕ, suc, ℤ, pos}
-use Rattle.theory.specs.Basics.{◌+ℤ◌, ◌-ℤ◌, ◌=?◌, every, sum, Each}
+use Rattle.theory.specs.Basics.{Bool, true, false, not, List, [], length, get_or, take, drop, ℕ, suc, ℤ, pos}
+use Rattle.theory.specs.Basics.{◌=?◌, every, sum, Each}
 use Rattle.theory.proofs.Basics.AtPlace.{each_at}
 use Rattle.theory.specs.Basics.Integers.{sums}
 use Rattle.theory.proofs.Basics.Integers.{swap-back}

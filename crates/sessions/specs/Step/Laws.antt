@@ -2,11 +2,11 @@
 -- the same.
 --   NamedOn m ..    what it tells that no check up to 9 refuses a line and a cycle; Accepted m .., that none refuses a
 --                   commit
-use Rattle.std.specs.Prelude.{◌≡◌, ◌≤◌, ◌<◌}
+use Rattle.std.specs.Prelude.{◌≡◌, ◌≤◌, ◌<◌, ◌∷◌}
 use Rattle.std.proofs.Math.Path.{refl}
 use Rattle.std.proofs.Common.{◌∙◌, ap, arith, ltb-false, leb-false}
 use Rattle.std.proofs.lemmas.Bool.{eqb-false}
-use Rattle.theory.specs.Basics.{List, [], ◌∷◌, length, ℕ, Each}
+use Rattle.theory.specs.Basics.{List, [], length, ℕ, Each}
 use Rattle.theory.proofs.Basics.AtPlace.{each_at}
 use Rattle.theory.proofs.Basics.Laws.{each_same}
 use Rattle.theory.specs.Limits.{page_limit}

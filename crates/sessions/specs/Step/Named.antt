@@ -1,14 +1,14 @@
 -- A step that names one of the lines of a sound slip and a cycle of its class, however the lines are written down: the
 -- lines that come of it are sound again, and worth the same.
 --   Named ..            the line numbered i is there, and its class has the cycle
-use Rattle.std.specs.Prelude.{◌≡◌, refl, ◌≤◌, ◌<◌}
+use Rattle.std.specs.Prelude.{◌≡◌, refl, ◌≤◌, ◌<◌, ◌∷◌, ◌++◌, ◌+◌, ◌-◌, ◌+ℤ◌}
 use Rattle.std.proofs.Common.{sym, ◌∙◌, length-append}
 use Rattle.std.proofs.Math.Path.{ap}
 use Rattle.std.proofs.lemmas.Bool.{false≢true}
 use native.Mathlib.Omega.{arith}
 use Rattle.std.proofs.Math.Seq.{split_at}
 use Rattle.std.specs.Int.Signed.{non_neg}
-use Rattle.theory.specs.Basics.{true, List, ◌∷◌, ◌++◌, length, map, take, drop, ℕ, suc, ◌+◌, ◌-◌, ℤ, pos, negsuc, ◌+ℤ◌}
+use Rattle.theory.specs.Basics.{true, List, length, map, take, drop, ℕ, suc, ℤ, pos, negsuc}
 use Rattle.theory.specs.Basics.{nat_abs, total, sum, Each}
 use Rattle.theory.specs.Basics.Integers.{sums}
 use Rattle.theory.proofs.Basics.Laws.{sum-append}

@@ -1,14 +1,14 @@
 -- What a preview and its commit have to do with each other (document 02, P3).
 --   step_checks .., step ..   the single step of document 01 ("Step: 6, 7, 8, 9, 10"), which no call makes any more
 --   Fits strip               the front of the strip is the preview that is made now
-use Rattle.std.specs.Prelude.{◌≡◌, ◌≤◌}
+use Rattle.std.specs.Prelude.{◌≡◌, ◌≤◌, ◌∷◌, ◌++◌, ◌-◌}
 use Rattle.std.proofs.Math.Path.{refl, sym, ap}
 use Rattle.std.proofs.Common.{◌∙◌, arith, le-ltb, take_at}
 use Rattle.std.proofs.Math.Decide.{ℕ_discrete}
 use Rattle.std.proofs.lemmas.Bool.{eqb-false, not-false, not-true}
 use Rattle.std.proofs.lemmas.List.{map-append, length-map}
-use Rattle.theory.specs.Basics.{Bool, true, false, not, cond, List, [], ◌∷◌, ◌++◌, length, take, ℕ, ◌=?◌, ◌<?◌, every}
-use Rattle.theory.specs.Basics.{map, drop, replicate, suc, ◌-◌, ℤ}
+use Rattle.theory.specs.Basics.{Bool, true, false, not, cond, List, [], length, take, ℕ, ◌=?◌, ◌<?◌, every}
+use Rattle.theory.specs.Basics.{map, drop, replicate, suc, ℤ}
 use Rattle.theory.proofs.Basics.Laws.{both, same_lists, same_self}
 use Rattle.theory.proofs.Basics.Keep.{length-keep}
 use Rattle.theory.specs.Partition.{degree}

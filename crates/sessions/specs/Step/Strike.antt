@@ -1,11 +1,11 @@
 -- A sound line l struck by a cycle of its class: what waits of its hook lines is sound, it is worth what they and the
 -- settled weights are worth, and they count no more than it did.
-use Rattle.std.specs.Prelude.{◌≡◌, ◌≤◌}
+use Rattle.std.specs.Prelude.{◌≡◌, ◌≤◌, ◌+◌, ◌*◌, ◌+ℤ◌}
 use Rattle.std.proofs.Common.{sym, ◌∙◌, le_refl, mul-le-mul, arith}
 use Rattle.std.proofs.Math.Path.{ap}
 use Rattle.std.proofs.Math.Decide.{ℕ_discrete}
 use borrow.Author.Tests.{eqb-true, eqb-false, not-true}
-use Rattle.theory.specs.Basics.{true, not, map, ℕ, ◌+◌, ◌*◌, ◌+ℤ◌, nat_abs, total, sum}
+use Rattle.theory.specs.Basics.{true, not, map, ℕ, nat_abs, total, sum}
 use Rattle.theory.specs.Basics.{◌=?◌, Each}
 use Rattle.theory.proofs.Basics.Laws.{each_same, each_member, map_same, sum_same}
 use Rattle.theory.proofs.Basics.Keep.{each_keep, sum-keep, total-keep}

@@ -8,7 +8,7 @@ use Rattle.theory.specs.ClassWord.{class_of}
 use Rattle.theory.proofs.OldForm.Laws.{from_old, to-old}
 use Rattle.words.specs.Answers.{Outcome}
 use Rattle.oldlists.specs.Lists.{ListAnswer, list_answer}
-use Rattle.oldlists.specs.Lists.Laws.{list-kept, list_back}
+use Rattle.oldlists.proofs.Lists.Laws.{list-kept, list_back}
 use Rattle.oldlists.specs.Calls.{shapes_from_old, shapes_to_old}
 
 module _ (limit : ℕ) (small : limit < width) where

@@ -2,10 +2,10 @@
 --   Line l   l ends in a newline and has no other
 --   Cut t    the first line of t is at its front, and behind it are the others
 --   Next text at end   the line of the text that starts at `at` ends at `end`
-use Rattle.std.specs.Prelude.{◌≡◌, ◌≤◌, ◌<◌}
+use Rattle.std.specs.Prelude.{◌≡◌, ◌≤◌, ◌<◌, ◌∷◌, ◌++◌, ◌+◌, ◌-◌}
 use Rattle.std.proofs.Math.Path.{refl}
 use Rattle.std.proofs.Common.{ap, append_assoc, arith, length-drop, drop-drop}
-use Rattle.theory.specs.Basics.{Bool, true, false, cond, List, [], ◌∷◌, ◌++◌, ℕ, suc, ◌+◌, ◌-◌, ◌=?◌, joined, length}
+use Rattle.theory.specs.Basics.{Bool, true, false, cond, List, [], ℕ, suc, ◌=?◌, joined, length}
 use Rattle.theory.specs.Basics.{get_or, take, drop, Each}
 use Rattle.theory.proofs.Basics.Laws.{each_append}
 use Rattle.text.specs.Text.{Text, ascii, text_line}

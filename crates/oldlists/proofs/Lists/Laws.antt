@@ -4,13 +4,13 @@
 --                                 it is refused
 --   Accepted checks given lent    the lists are as long as each other, not too long, and no word is refused
 -- Of OldForm/Laws: Passes checks w, no check refuses w; OneWord, what is so of one word.
-use Rattle.std.specs.Prelude.{◌≡◌, refl, ◌≤◌, ◌<◌}
+use Rattle.std.specs.Prelude.{◌≡◌, refl, ◌≤◌, ◌<◌, ◌∷◌, ◌+◌}
 use Rattle.std.proofs.Common.{sym, ◌∙◌, ap, map-id, add-zero, arith, eqb-true, eq-eqb, leb-true, le-leb}
 use Rattle.std.proofs.lemmas.Simd.{map-map}
 use Rattle.std.proofs.Math.Decide.{ℕ_discrete}
 use Rattle.std.proofs.lemmas.List.{length-map}
 use Rattle.std.proofs.lemmas.Bool.{not-false}
-use Rattle.theory.specs.Basics.{List, [], ◌∷◌, map, length, get_or, take, ℕ, suc, ◌+◌}
+use Rattle.theory.specs.Basics.{List, [], map, length, get_or, take, ℕ, suc}
 use Rattle.theory.specs.Basics.{◌=?◌, ◌≤?◌, Each}
 use Rattle.theory.proofs.Basics.Laws.{both, each_map, map_same}
 use Rattle.theory.specs.Partition.{Parts}

@@ -2,7 +2,7 @@
 
 #![tactic(auto)]
 
-ghost use Rattle.std.specs.Prelude.{◌≤◌, length, IfOk};
+ghost use Rattle.std.specs.Prelude.{◌≡◌, ◌≤◌, length, take, IfOk, IfSome};
 
 use std::io;
 use std::io::Read;
@@ -11,9 +11,12 @@ fn room() -> [u8; tabletext::ROOM] {
     [0; tabletext::ROOM]
 }
 
-// Reads until a buffer is full or the input ends, and counts the bytes that it put at the buffer's front.
+// Reads until a buffer is full or the input ends, and counts the bytes that it put at the buffer's front: where a
+// reader's bytes are known, the first ones, as many as the buffer has room for.
 fn read_full<R: Read + Drop>(reader: R, buffer: &mut [u8]) -> io::Result<usize>
-    ensures { IfOk result (λ n. n ≤ length buffer.new) }
+    ensures fits { IfOk result (λ n. n ≤ length buffer.new) }
+    ensures bytes { IfOk result (λ n. IfSome (R.remaining reader)
+        (λ xs. take n buffer.new ≡ take (length buffer.new) xs)) }
 {
     let mut bytes = reader.bytes();
     let mut count = 0;

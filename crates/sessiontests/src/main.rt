@@ -14,13 +14,13 @@ mod changes;
 mod comparing;
 mod drawing;
 mod examples;
-mod hooks;
 mod loads;
 mod parts;
 mod refused;
 mod runs;
 mod saves;
 mod steps;
+mod striking;
 mod strips;
 mod texts;
 

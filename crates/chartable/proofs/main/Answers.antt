@@ -1,7 +1,5 @@
--- The text is no longer than the bytes at whose front it stands.
-use Rattle.std.specs.Prelude.{◌≤◌, length}
-use Rattle.std.proofs.Common.{arith, sym, length-append}
-use lib.Seq.{length-take-le}
+-- `chartable::main`: the text is no longer than the bytes at whose front it stands.
+use Rattle.std.proofs.Common.{arith, sym, length-append, length-take-le}
 use Rattle.tabletext.specs.Table.{chartable_into}
 use Rattle.chartable.proofs.main.Goals as goal
 
@@ -15,6 +13,4 @@ pub slice_bounds-write_all-end : goal.slice_bounds-write_all-end
 unfolding chartable_into
 slice_bounds-write_all-end c =
     let o = c.answer-length.ensures in
-    let inside : c.answer-length.result ≤ length c.answer-length.new.out =
-        rw (o.answers, o.leaves, length-append) (omega arith) in
-    sym (length-take-le _ _ inside)
+    sym (length-take-le _ _ (rw (o.answers, o.leaves, length-append) (omega arith)))

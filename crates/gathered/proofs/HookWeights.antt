@@ -33,7 +33,7 @@ use Rattle.pages.specs.Gathering.{alike, lasting, distinct}
 use Rattle.pages.specs.Gathering.Different.{Unlike, one_more, different-none, different-keep}
 use Rattle.pages.specs.Sound.Laws.{SoundLine}
 use Rattle.sessions.specs.Step.{empty, settled_hooks, waiting_hooks}
-use Rattle.sessions.specs.Step.Strike.{cycle-positive}
+use Rattle.sessions.proofs.Step.Strike.{cycle-positive}
 use Rattle.gathered.specs.Private.Striking.{cleared, turned}
 
 -- ---- by their hooks

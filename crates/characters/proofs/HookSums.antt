@@ -7,6 +7,7 @@
 --   Walked left so_far          a walk, the marks `left` still to come
 --   NextHook left so_far z one  the next hook of it, by its stretch: the highest mark is at place 31 - z, and counts
 --                               `one`
+use Rattle.std.specs.Prelude.{◌+◌, ◌-◌, ◌*◌, ◌%◌, ◌^◌, ◌+ℤ◌}
 use mathlib.Core.Path.{◌≡◌, sym, ◌∙◌, ap, subst}
 use Prim.Native.Nat.{◌≤◌, ◌<◌}
 use native.Mathlib.Nat.{pos_of_ne-zero, zero-add}
@@ -14,7 +15,7 @@ use native.Mathlib.Omega.{arith}
 use lib.Count.{count_leading_zeros}
 use lib.IntN.{+ℤ_idl, +ℤ_idr, +ℤ_assoc}
 use lib.ListN.{length-map}
-use Rattle.theory.specs.Basics.{Bool, length, ℕ, ◌+◌, ◌-◌, ◌*◌, ◌%◌, ◌^◌, ℤ, pos, ◌+ℤ◌, nat_abs, sum, signed}
+use Rattle.theory.specs.Basics.{Bool, length, ℕ, ℤ, pos, nat_abs, sum, signed}
 use Rattle.theory.specs.Basics.{Each}
 use Rattle.theory.specs.Partition.{degree}
 use Rattle.theory.specs.Digits.{width}

@@ -1,6 +1,7 @@
 -- The class word of (1^n) is known by its last one: added once more, it carries through all the ones before it. On that
 -- class the quotient is the character.
 --   OnesTold w z one   z zeros are behind the last one of the class word w, and it counts `one`: it tells if w is such
+use Rattle.std.specs.Prelude.{◌+◌, ◌-◌, ◌*◌, ◌%◌, ◌^◌}
 use mathlib.Core.Path.{◌≡◌, sym, ◌∙◌, ap}
 use Prim.Native.Nat.{◌≤◌, ◌<◌}
 use native.Mathlib.Decide.{ℕ_discrete}
@@ -8,7 +9,7 @@ use native.Mathlib.Omega.{arith}
 use lib.Count.{count_trailing_zeros}
 use lib.Pow.{pow_mono}
 use borrow.Author.Tests.{eq-eqb, ne_eqb, eqb-true}
-use Rattle.theory.specs.Basics.{true, ℕ, ◌+◌, ◌-◌, ◌*◌, ◌%◌, ◌^◌, ◌=?◌, replicate}
+use Rattle.theory.specs.Basics.{true, ℕ, ◌=?◌, replicate}
 use Rattle.theory.specs.Partition.{Parts, degree}
 use Rattle.theory.specs.Digits.{width}
 use Rattle.theory.proofs.Digits.Laws.{one_shifted}

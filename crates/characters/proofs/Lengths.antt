@@ -5,6 +5,7 @@
 --   Divides s so_far lengths h        so far h!, and the lengths up to h of the hooks of the word s
 --   NextLength s so_far lengths h     the same with a further length h
 --   Quotient s so_far lengths         n! and all lengths: divided, they are the character degree
+use Rattle.std.specs.Prelude.{◌+◌, ◌-◌, ◌*◌, ◌/◌, ◌%◌, ◌^◌}
 use mathlib.Core.Path.{◌≡◌, refl, sym, ◌∙◌, ap}
 use Prim.Native.Nat.{◌≤◌, ◌<◌}
 use native.Mathlib.Nat.{pos_of_ne-zero, mul-pos, mul-one, one-mul, pow-suc, pow-zero, mul_assoc, mul_comm}
@@ -12,7 +13,7 @@ use native.Mathlib.Nat.{sub-zero, sub_self, one-le-pow, le-mul_of_pos_right, lt_
 use native.Mathlib.Omega.{arith}
 use lib.Count.{count_leading_zeros}
 use lib.ListN.{length-map}
-use Rattle.theory.specs.Basics.{ℕ, zero, suc, ◌+◌, ◌-◌, ◌*◌, ◌/◌, ◌%◌, ◌^◌, length, pos, nat_abs}
+use Rattle.theory.specs.Basics.{ℕ, zero, suc, length, pos, nat_abs}
 use Rattle.theory.specs.Partition.{degree}
 use Rattle.theory.specs.Digits.{width}
 use Rattle.theory.specs.ShapeWord.{shape_of}

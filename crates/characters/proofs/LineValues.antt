@@ -1,10 +1,11 @@
 -- The signed character of a page's word, which has room in 64 bits.
+use Rattle.std.specs.Prelude.{◌+◌, ◌^◌, ◌+ℤ◌, ◌*ℤ◌}
 use mathlib.Core.Path.{◌≡◌, sym, ◌∙◌}
 use Prim.Native.Nat.{◌<◌}
 use native.Mathlib.Nat.{one-mul}
 use native.Mathlib.Omega.{arith}
 use lib.IntN.{*ℤ_comm}
-use Rattle.theory.specs.Basics.{Bool, ℕ, ◌+◌, ◌^◌, ℤ, pos, ◌+ℤ◌, ◌*ℤ◌, nat_abs, signed}
+use Rattle.theory.specs.Basics.{Bool, ℕ, ℤ, pos, nat_abs, signed}
 use Rattle.theory.proofs.Basics.Integers.Products.{times-one, times-signed}
 use Rattle.theory.specs.Digits.{bit, digits, width}
 use Rattle.theory.specs.ShapeWord.{shape_of}

@@ -3,14 +3,15 @@
 --   table_columns   for each degree with a table, the columns of its classes in listing order
 --   entry n r i    entry i of the row of rank r in the table of degree n
 --   Found w r n k  the degree of the class word w is n, and r is one of its k ranks
+use Rattle.std.specs.Prelude.{◌++◌, ◌+◌, ◌-◌}
 use mathlib.Core.Path.{◌≡◌, refl, ◌∙◌, ap}
 use Prim.Native.Nat.{◌≤◌, ◌<◌}
 use native.Mathlib.Omega.{arith}
 use lib.Count.{count_trailing_zeros}
 use lib.ListN.{length-append, length-map, get_or-append}
 use borrow.Author.Tests.{leb-true}
-use Rattle.theory.specs.Basics.{true, List, [], ◌++◌, map, length, get_or, every, up_from}
-use Rattle.theory.specs.Basics.{ℕ, suc, ◌+◌, ◌-◌, ◌≤?◌, ℤ, pos}
+use Rattle.theory.specs.Basics.{true, List, [], map, length, get_or, every, up_from}
+use Rattle.theory.specs.Basics.{ℕ, suc, ◌≤?◌, ℤ, pos}
 use Rattle.theory.proofs.Basics.AtPlace.{map_at, up-length, map-up-at, every-up}
 use Rattle.theory.specs.Partition.{Parts, degree}
 use Rattle.theory.specs.Digits.{digits, width}

@@ -7,6 +7,7 @@
 --   rank_within k    whether its rank is in the list; ranked_column k, the column of the class of that rank
 --   others w z      the class word w without its first cycle z: one shift drops it
 --   Struck w z      the first cycle of w, a class word above degree 4, is z
+use Rattle.std.specs.Prelude.{◌∷◌, ◌*◌, ◌/◌, ◌%◌, ◌^◌}
 use mathlib.Core.Path.{◌≡◌, refl, sym, ◌∙◌, ap, subst}
 use Prim.Native.Nat.{◌≤◌, ◌<◌}
 use native.Mathlib.Nat.{pos_of_ne-zero}
@@ -14,8 +15,8 @@ use native.Mathlib.Decide.{dec_le}
 use native.Mathlib.Omega.{arith}
 use lib.Count.{count_leading_zeros, count_trailing_zeros, trailing_of_zero}
 use borrow.Author.Tests.{ltb-true, eqb-true, le-leb, lt-leb}
-use Rattle.theory.specs.Basics.{Bool, true, List, [], ◌∷◌, map, length, get_or, every, up_from}
-use Rattle.theory.specs.Basics.{ℕ, suc, ◌*◌, ◌/◌, ◌%◌, ◌^◌, ◌=?◌, ◌<?◌, ◌≤?◌, ℤ}
+use Rattle.theory.specs.Basics.{Bool, true, List, [], map, length, get_or, every, up_from}
+use Rattle.theory.specs.Basics.{ℕ, suc, ◌=?◌, ◌<?◌, ◌≤?◌, ℤ}
 use Rattle.theory.proofs.Basics.AtPlace.{every-at, every-up, same_up}
 use Rattle.theory.specs.Partition.{Parts, degree}
 use Rattle.theory.specs.Digits.{digits, word, width}

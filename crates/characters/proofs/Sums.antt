@@ -2,6 +2,7 @@
 -- whole.
 --   Summing i z      z is the sum of the first i of them
 --   NextLine i z l   the next of them, l, is sound, has room, and keeps the sum going
+use Rattle.std.specs.Prelude.{◌∷◌, ◌+◌, ◌^◌, ◌+ℤ◌}
 use mathlib.Core.Path.{◌≡◌, sym, ◌∙◌}
 use Prim.Native.Nat.{◌≤◌, ◌<◌}
 use native.Mathlib.Numerals.{add-one}
@@ -9,7 +10,7 @@ use native.Mathlib.Omega.{arith}
 use lib.IntN.{+ℤ_idl, +ℤ_idr, +ℤ_assoc}
 use lib.ListN.{drop_of_length-le}
 use lib.Seq.{drop-cons}
-use Rattle.theory.specs.Basics.{List, ◌∷◌, length, drop, ℕ, ◌+◌, ◌^◌, ℤ, pos, ◌+ℤ◌, nat_abs, sum, Each}
+use Rattle.theory.specs.Basics.{List, length, drop, ℕ, ℤ, pos, nat_abs, sum, Each}
 use Rattle.theory.proofs.Bounds.Laws.{abs-add}
 use Rattle.pages.specs.Line.{Line, signed_character}
 use Rattle.pages.specs.Page.{line_of, line_at}

@@ -1,11 +1,12 @@
 -- The hook walk and the value: a shape word and a class that can be evaluated, struck by one cycle.
 --   FirstCycle s w z   the value of the shape word s on the class word w strikes the cycle z first
+use Rattle.std.specs.Prelude.{◌∷◌, ◌^◌}
 use mathlib.Core.Path.{◌≡◌, refl, sym, ap}
 use Prim.Native.Nat.{◌≤◌, ◌<◌}
 use native.Mathlib.Nat.{lt_of_le_of_lt}
 use native.Mathlib.Omega.{arith}
 use lib.Count.{count_leading_zeros}
-use Rattle.theory.specs.Basics.{[], ◌∷◌, ℕ, ◌^◌, pos, nat_abs}
+use Rattle.theory.specs.Basics.{[], ℕ, pos, nat_abs}
 use Rattle.theory.specs.Partition.{Parts, degree}
 use Rattle.theory.specs.Partition.Laws.{NoZero, some}
 use Rattle.theory.specs.Digits.{digits, width}

@@ -1,5 +1,6 @@
 -- From the tests of a watch, in any mode, to what it is promised to answer, and the numbers of a ratio.
 --   Watching ..   what it tells that no check refuses a watch
+use Rattle.std.specs.Prelude.{◌∷◌, ◌+◌, ◌^◌, ◌+ℤ◌}
 use mathlib.Core.Path.{◌≡◌, sym, ◌∙◌, ap}
 use Prim.Native.Nat.{◌≤◌, ◌<◌}
 use native.Mathlib.Decide.{dec_le, dec_lt}
@@ -7,7 +8,7 @@ use native.Mathlib.Omega.{arith}
 use borrow.Author.Tests.{le-leb, lt-leb}
 use lib.Ieee.{binary64, of_int, div}
 use lib.IntN.{+ℤ_idl}
-use Rattle.theory.specs.Basics.{cond, List, [], ◌∷◌, ℕ, ◌+◌, ◌^◌, ℤ, pos, ◌+ℤ◌, nat_abs, ◌≤?◌, sum, Each}
+use Rattle.theory.specs.Basics.{cond, List, [], ℕ, ℤ, pos, nat_abs, ◌≤?◌, sum, Each}
 use Rattle.theory.proofs.Basics.Laws.{each_same}
 use Rattle.theory.specs.Bounds.Laws.{largest_limit}
 use Rattle.theory.specs.ShapeWord.{shape_of}

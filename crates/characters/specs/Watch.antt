@@ -6,10 +6,10 @@
 --   shown_in m s ls i k  what kind k shows of slip s, its lines ls and the line numbered i
 --   kind_checks k n i    the checks of kind k and line i where n lines wait; kinds 3 to 5 ignore the line
 --   watch_in ..          the refusal number and the value that a watch gives, by watch_checks_in
-use Rattle.std.specs.Prelude.{Float}
+use Rattle.std.specs.Prelude.{Float, ◌∷◌, ◌++◌}
 use Rattle.std.specs.Float.{binary64}
 use Rattle.std.specs.Float.Ieee.{of_int, div}
-use Rattle.theory.specs.Basics.{cond, List, [], ◌∷◌, ◌++◌, ℕ, zero, suc, ℤ, ◌≤?◌, sum}
+use Rattle.theory.specs.Basics.{cond, List, [], ℕ, zero, suc, ℤ, ◌≤?◌, sum}
 use Rattle.theory.specs.ShapeWord.{shape_of}
 use Rattle.theory.specs.Character.{character_degree}
 use Rattle.theory.specs.Refusals.{Check, first_of, refused_or, no-8, no-15}

@@ -22,8 +22,8 @@ pub fn is_identity(class: u32) -> bool
 
 // A product and, for each hook of a length, that length as a further factor.
 fn times_lengths(product: u64, shape: u32, length: u32) -> u64
-    requires shape_bound { (shape < 2 ^ width) × (0 < length) × (length < 32) }
-    requires shape_bound_2 { product * length ^ length_of (hook_words length shape) < 2 ^ 64 }
+    requires within { (shape < 2 ^ width) × (0 < length) × (length < 32) }
+    requires fits { product * length ^ length_of (hook_words length shape) < 2 ^ 64 }
     ensures { result ≡ product * length ^ length_of (hook_words length shape) }
 {
     let mut left = hooks::marks(shape, length);

@@ -2,6 +2,7 @@
 ghost use Rattle.listing.specs.Private.Tables.{most_partitions};
 ghost use Rattle.std.specs.Prelude.{◌≤◌, length};
 
+use std::io;
 use testing::{Tally, print};
 
 #[derive(Clone, Copy)]
@@ -13,12 +14,12 @@ pub struct Columns {
     pub short: Tally,
 }
 
-pub fn print_all(found: Columns) {
-    print(b"column has an entry for each partition", found.counts);
-    print(b"first entry is 1, formula (4)", found.firsts);
-    print(b"last entry is the sign, formula (5)", found.lasts);
-    print(b"entries of size at most 2000000", found.sizes);
-    print(b"column one too short stays, 14", found.short);
+pub fn print_all(rt: &impl Print, found: Columns) -> io::Result<()> {
+    print(rt, b"column has an entry for each partition", found.counts)?;
+    print(rt, b"first entry is 1, formula (4)", found.firsts)?;
+    print(rt, b"last entry is the sign, formula (5)", found.lasts)?;
+    print(rt, b"entries of size at most 2000000", found.sizes)?;
+    print(rt, b"column one too short stays, 14", found.short)
 }
 
 // What fills a column before a call: larger than any character.

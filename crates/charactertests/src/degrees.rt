@@ -3,6 +3,7 @@ ghost use Rattle.listing.specs.Private.Tables.{most_partitions};
 ghost use Rattle.std.specs.Prelude.{◌≤◌};
 
 use super::lists;
+use std::io;
 use testing::{Tally, print};
 
 #[derive(Clone, Copy)]
@@ -11,9 +12,9 @@ pub struct Degrees {
     pub all: Tally,
 }
 
-pub fn print_all(found: Degrees) {
-    print(b"largest character degree, document 004", found.largest);
-    print(b"character degrees are entries of (1^n)", found.all);
+pub fn print_all(rt: &impl Print, found: Degrees) -> io::Result<()> {
+    print(rt, b"largest character degree, document 004", found.largest)?;
+    print(rt, b"character degrees are entries of (1^n)", found.all)
 }
 
 // Whether the shape of a rank has this character degree.

@@ -15,17 +15,18 @@ mod ranks;
 mod singles;
 mod walk;
 
+use std::io;
 use testing::print;
 
-fn main() {
+fn main(rt: HostRuntime) -> io::Result<()> {
     let found = walk::all();
-    columns::print_all(found.columns);
-    print(b"columns are orthogonal, formula (2b)", found.products);
-    degrees::print_all(found.degrees);
-    print(b"single characters to degree 14", found.singles);
-    ranks::print_all(found.ranks);
-    print(b"degree above 16, 12", ranks::above());
-    print(b"pairs at a border", borders::pairs());
-    print(b"shapes at a border", borders::shapes());
-    print(b"classes at a border", borders::classes());
+    columns::print_all(&rt, found.columns)?;
+    print(&rt, b"columns are orthogonal, formula (2b)", found.products)?;
+    degrees::print_all(&rt, found.degrees)?;
+    print(&rt, b"single characters to degree 14", found.singles)?;
+    ranks::print_all(&rt, found.ranks)?;
+    print(&rt, b"degree above 16, 12", ranks::above())?;
+    print(&rt, b"pairs at a border", borders::pairs())?;
+    print(&rt, b"shapes at a border", borders::shapes())?;
+    print(&rt, b"classes at a border", borders::classes())
 }

@@ -1,4 +1,5 @@
 // The listing: from a rank to a partition, as either word, and back.
+use std::io;
 use testing::{Tally, print};
 use words::{NumberAnswer, WordAnswer};
 
@@ -9,10 +10,10 @@ pub struct Ranks {
     pub past: Tally,
 }
 
-pub fn print_all(found: Ranks) {
-    print(b"shape at a rank and back", found.shapes);
-    print(b"class at a rank and back", found.classes);
-    print(b"rank past the last, 11", found.past);
+pub fn print_all(rt: &impl Print, found: Ranks) -> io::Result<()> {
+    print(rt, b"shape at a rank and back", found.shapes)?;
+    print(rt, b"class at a rank and back", found.classes)?;
+    print(rt, b"rank past the last, 11", found.past)
 }
 
 // Whether a word was given, and its rank is this one.

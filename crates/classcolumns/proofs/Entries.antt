@@ -1,12 +1,13 @@
 -- What a table has for the shapes of a degree, in listing order; of a kept table it is the column.
 --   NextEntry p table words n from i   how entry i is read: its word stands at from + i, and degree n starts at `from`
+use Rattle.std.specs.Prelude.{◌∷◌, ◌+◌}
 use mathlib.Core.Path.{◌≡◌, sym, ◌∙◌, ap}
 use Prim.Native.Nat.{◌≤◌, ◌<◌}
 use native.Mathlib.Numerals.{add-one}
 use native.Mathlib.Omega.{arith}
 use lib.ListN.{length-map}
 use lib.Seq.{drop-cons, ext_get_or}
-use Rattle.theory.specs.Basics.{true, List, [], ◌∷◌, length, get_or, drop, ℕ, suc, ◌+◌, ℤ, pos}
+use Rattle.theory.specs.Basics.{true, List, [], length, get_or, drop, ℕ, suc, ℤ, pos}
 use Rattle.theory.proofs.Basics.AtPlace.{map_at}
 use Rattle.theory.specs.Partition.{Parts, degree}
 use Rattle.theory.specs.ShapeWord.{shape_word, good_shape}

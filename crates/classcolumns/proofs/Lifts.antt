@@ -4,6 +4,7 @@
 --   NextWord limit words i h    how the next is done: the word at the index i, and a cycle h of a good length
 --   Filling p cycles table i n  a table of the cycles from the i-th on, which have the degree n
 --   Earlier p cycles table i n  it has those after the i-th, and those from the i-th on have the degree n
+use Rattle.std.specs.Prelude.{◌∷◌, ◌+◌, ◌-◌}
 use mathlib.Core.Path.{◌≡◌, sym, ◌∙◌, ap}
 use Prim.Native.Nat.{◌≤◌, ◌<◌}
 use native.Mathlib.Nat.{le_refl}
@@ -12,7 +13,7 @@ use native.Mathlib.Decide.{ℕ_discrete}
 use native.Mathlib.Omega.{arith}
 use lib.ListN.{set}
 use lib.Seq.{drop-length}
-use Rattle.theory.specs.Basics.{true, List, [], ◌∷◌, length, get_or, drop, signed, ℕ, suc, ◌+◌, ◌-◌, ℤ}
+use Rattle.theory.specs.Basics.{true, List, [], length, get_or, drop, signed, ℕ, suc, ℤ}
 use Rattle.theory.proofs.Basics.Laws.{sum_same}
 use Rattle.theory.specs.Partition.{Parts, degree}
 use Rattle.theory.proofs.Partition.Laws.{no-zero-drop, degree-drop}

@@ -4,12 +4,13 @@
 --   TellsIndexes      they tell, at the place of each word within the limit, its index among them
 --   index_digits       ten: so many binary digits has an index
 --   packed i ws       the number for the words ws, from index i on: each index as ten digits at the word's place
+use Rattle.std.specs.Prelude.{◌∷◌, ◌+◌, ◌*◌, ◌/◌, ◌%◌, ◌^◌}
 use mathlib.Core.Path.{◌≡◌, refl, sym, ◌∙◌, ap}
 use Prim.Native.Nat.{◌≤◌, ◌<◌}
 use native.Mathlib.Omega.{arith}
 use lib.ListN.{length-map}
 use borrow.Author.Tests.{leb-true}
-use Rattle.theory.specs.Basics.{true, List, [], ◌∷◌, map, ℕ, suc, ◌+◌, ◌*◌, ◌/◌, ◌%◌, ◌^◌, get_or, ◌≤?◌, every, length}
+use Rattle.theory.specs.Basics.{true, List, [], map, ℕ, suc, get_or, ◌≤?◌, every, length}
 use Rattle.theory.specs.Basics.AtPlace.{tabled}
 use Rattle.theory.proofs.Basics.AtPlace.{every-at, map_at, tabled-at}
 use Rattle.theory.specs.Digits.{word}

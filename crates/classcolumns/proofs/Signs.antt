@@ -1,11 +1,12 @@
 -- A number of 64 bits times a sign is the number with that sign, and has room.
-use mathlib.Core.Path.{◌≡◌, ◌∙◌, ap₂}
+use Rattle.std.specs.Prelude.{◌*ℤ◌, ◌^◌}
+use mathlib.Core.Path.{◌≡◌, ◌∙◌}
 use Prim.Native.Nat.{◌<◌}
 use native.Mathlib.Omega.{arith}
 use mir.Facts.{to_z-of_z}
 use mir.Syntax.{w64}
 use mir.Val.{SFits}
-use Rattle.theory.specs.Basics.{Bool, ℤ, pos, ◌*ℤ◌, nat_abs, signed, ◌^◌}
+use Rattle.theory.specs.Basics.{Bool, ℤ, pos, nat_abs, signed}
 use Rattle.theory.proofs.Basics.Integers.Products.{times-signed, times-one}
 use Rattle.theory.proofs.Bounds.Laws.{abs-signed}
 use Rattle.pages.proofs.Signed.{carried, carried-is, room}

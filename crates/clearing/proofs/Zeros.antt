@@ -1,4 +1,5 @@
 -- A loop over elements that are to pass a test, as words and coefficients are that are to be 0.
+use Rattle.std.specs.Prelude.{◌+◌, ◌-◌, ◌^◌}
 use mathlib.Core.Path.{◌≡◌, refl, sym, ◌∙◌}
 use mathlib.Core.Bool.{and-true}
 use Prim.Native.Nat.{◌≤◌, ◌<◌}
@@ -9,7 +10,7 @@ use lib.ListN.{drop_of_length-le, length-drop}
 use lib.Seq.{drop-cons, take_all}
 use mir.Syntax.{w64}
 use mir.Val.{SFits, of_z}
-use Rattle.theory.specs.Basics.{Bool, true, false, List, length, get_or, take, drop, ℕ, suc, ◌+◌, ◌-◌, ◌^◌, ℤ, pos}
+use Rattle.theory.specs.Basics.{Bool, true, false, List, length, get_or, take, drop, ℕ, suc, ℤ, pos}
 use Rattle.theory.specs.Basics.{negsuc, nat_abs, ◌=?◌, every}
 
 module _ {A : Type 0} (test : A → Bool) (none : A) (xs : List A) (i : ℕ) where

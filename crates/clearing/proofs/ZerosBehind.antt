@@ -1,4 +1,5 @@
 -- Zeros from a place on: one more at each turn, and all at the end.
+use Rattle.std.specs.Prelude.{◌∷◌, ◌++◌, ◌+◌, ◌-◌}
 use mathlib.Core.Path.{◌≡◌, refl, ap}
 use mathlib.Core.List.{append_assoc, append-nil}
 use Prim.Native.Nat.{◌≤◌, ◌<◌}
@@ -6,7 +7,7 @@ use native.Mathlib.Numerals.{add-one}
 use native.Mathlib.Omega.{arith}
 use lib.ListN.{set, length-set}
 use lib.Seq.{take_all}
-use Rattle.theory.specs.Basics.{List, [], ◌∷◌, ◌++◌, length, take, replicate, ℕ, zero, suc, ◌+◌, ◌-◌}
+use Rattle.theory.specs.Basics.{List, [], length, take, replicate, ℕ, zero, suc}
 
 module _ {A : Type 0} (v : A) where
   take_put : (xs : List A) (at : ℕ) → at < length xs → take (suc at) (set xs at v) ≡ take at xs ++ v ∷ []

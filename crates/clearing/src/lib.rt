@@ -3,8 +3,8 @@
 
 #![tactic(auto)]
 
-ghost use Rattle.std.specs.Prelude.{◌≡◌, pos};
-ghost use Rattle.theory.specs.Basics.{length, take, replicate, ◌++◌, ◌-◌};
+ghost use Rattle.std.specs.Prelude.{◌≡◌, pos, ◌++◌, ◌-◌};
+ghost use Rattle.theory.specs.Basics.{length, take, replicate};
 
 pub mod idle;
 

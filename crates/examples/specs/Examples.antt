@@ -4,8 +4,8 @@
 --   seen cycle outcome       a preview of line 0, on a strip of two words that hold 7
 --   strike cycle outcome     this preview and its commit, the latest slip and page handed on
 --   after s c z l n page     accepted: settled z, l lines, n steps, and this page
-use Rattle.std.specs.Prelude.{◌≡◌}
-use Rattle.theory.specs.Basics.{List, [], ◌∷◌, replicate, ℕ, ℤ, pos, negsuc}
+use Rattle.std.specs.Prelude.{◌≡◌, ◌∷◌}
+use Rattle.theory.specs.Basics.{List, [], replicate, ℕ, ℤ, pos, negsuc}
 use Rattle.theory.specs.Character.{◌on◌}
 use Rattle.theory.specs.ShapeWord.{shape_word, shape_of}
 use Rattle.theory.specs.ClassWord.{class_word, class_of}

@@ -1,12 +1,13 @@
 -- A line of the gathered mode by itself is sound as the one line of a plain session, on a page of its word and zeros.
 --   paged k x   a page of the word x and k zeros behind it
+use Rattle.std.specs.Prelude.{◌∷◌, ◌/◌, ◌%◌, ◌^◌}
 use mathlib.Core.Path.{◌≡◌, refl}
 use Prim.Native.Nat.{◌≤◌, ◌<◌}
 use native.Mathlib.Nat.{le_refl}
 use native.Mathlib.Omega.{arith}
 use borrow.Author.Tests.{le-ltb, ne_eqb}
 use lib.ListN.{length-replicate}
-use Rattle.theory.specs.Basics.{true, false, List, [], ◌∷◌, length, replicate, ℕ, zero, suc, ◌/◌, ◌%◌, ◌^◌, ℤ, nat_abs}
+use Rattle.theory.specs.Basics.{true, false, List, [], length, replicate, ℕ, zero, suc, ℤ, nat_abs}
 use Rattle.theory.specs.Basics.{◌=?◌, every}
 use Rattle.theory.specs.Digits.{bit}
 use Rattle.theory.specs.Limits.{page_limit}

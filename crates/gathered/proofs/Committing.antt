@@ -1,5 +1,6 @@
 -- A commit in the gathered mode: each refusal is that of the first check that applies, and what is written is what is
 -- promised.
+use Rattle.std.specs.Prelude.{◌∷◌, ◌++◌, ◌+◌, ◌^◌, ◌+ℤ◌}
 use mathlib.Core.Path.{◌≡◌, refl, sym, ◌∙◌, ap, ap₂}
 use mathlib.Core.Bool.{false≢true}
 use mathlib.Core.List.{append_assoc}
@@ -7,9 +8,8 @@ use Prim.Native.Nat.{◌≤◌, ◌<◌}
 use native.Mathlib.Omega.{arith}
 use borrow.Author.Tests.{le-leb, lt-leb, eqb-false}
 use lib.Seq.{length-take-le, get_or-take}
-use Rattle.theory.specs.Basics.{Bool, true, false, cond, List, [], ◌∷◌, ◌++◌, map, length, get_or, take, ℕ}
-use Rattle.theory.specs.Basics.{◌+◌}
-use Rattle.theory.specs.Basics.{◌^◌, ℤ, pos, ◌+ℤ◌, nat_abs, ◌<?◌, every, sum, Each}
+use Rattle.theory.specs.Basics.{Bool, true, false, cond, List, [], map, length, get_or, take, ℕ}
+use Rattle.theory.specs.Basics.{ℤ, pos, nat_abs, ◌<?◌, every, sum, Each}
 use Rattle.theory.proofs.Basics.AtPlace.{each_at}
 use Rattle.theory.proofs.Basics.Laws.{both, each_same}
 use Rattle.theory.proofs.Basics.Keep.{every-each}
@@ -37,8 +37,8 @@ use Rattle.pages.proofs.Signed.{carried, carried-is}
 use Rattle.sessions.specs.declared.Handed.{Handed}
 use Rattle.sessions.specs.Opening.{handed}
 use Rattle.sessions.specs.Step.{settled_hooks, waiting_hooks, next_lines_in, next_slip_in, commit_checks_in, commit_in}
-use Rattle.sessions.specs.Step.Gathered.{unlike-waiting}
-use Rattle.sessions.specs.Step.Named.{Named, settled-room}
+use Rattle.sessions.proofs.Step.Gathered.{unlike-waiting}
+use Rattle.sessions.proofs.Step.Named.{Named, settled-room}
 use Rattle.gathered.specs.declared.commits.Struck.{Struck}
 use Rattle.gathered.specs.declared.joining.Joined.{Joined}
 use Rattle.gathered.specs.Private.Joining.{Small, next_of, joined_answer, Joinable, joined_onto}

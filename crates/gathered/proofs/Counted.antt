@@ -2,6 +2,7 @@
 -- spares itself, and where the line becomes 0 the line too.
 --   news lines hs     how many of hs no line is equal to; spared lines hs, how many lines hs spare
 --   stays hs l        1 where l keeps a coefficient when hs are brought to it, and else 0
+use Rattle.std.specs.Prelude.{◌&&◌, ◌∷◌, ◌++◌, ◌+◌, ◌-◌, ◌+ℤ◌}
 use mathlib.Core.Path.{◌≡◌, refl, sym, ◌∙◌, ap, ap₂}
 use mathlib.Core.List.{map-append}
 use Prim.Native.Nat.{◌<◌}
@@ -10,8 +11,8 @@ use borrow.Author.Tests.{not-true}
 use lib.IntN.{+ℤ_idr}
 use lib.ListN.{length-append}
 use lib.Seq.{split_at}
-use Rattle.theory.specs.Basics.{Bool, true, false, not, cond, ◌&&◌, List, [], ◌∷◌, ◌++◌, map, length, take, drop}
-use Rattle.theory.specs.Basics.{ℕ, zero, suc, ◌+◌, ◌-◌, ℤ, pos, ◌+ℤ◌, nat_abs, ◌=?◌, keep, every, total, sum}
+use Rattle.theory.specs.Basics.{Bool, true, false, not, cond, List, [], map, length, take, drop}
+use Rattle.theory.specs.Basics.{ℕ, zero, suc, ℤ, pos, nat_abs, ◌=?◌, keep, every, total, sum}
 use Rattle.theory.specs.Basics.{Each}
 use Rattle.theory.proofs.Basics.Laws.{each_same, map_same}
 use Rattle.theory.proofs.Basics.AtPlace.{every-at}

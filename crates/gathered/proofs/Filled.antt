@@ -1,8 +1,9 @@
 -- The column of a session that is opened with a line: its coefficient, and zeros.
-use mathlib.Core.Path.{◌≡◌, refl}
+use Rattle.std.specs.Prelude.{◌++◌, ◌-◌}
+use mathlib.Core.Path.{◌≡◌}
 use Prim.Native.Nat.{◌≤◌}
 use native.Mathlib.Omega.{arith}
-use Rattle.theory.specs.Basics.{List, ◌++◌, length, set, replicate, ℕ, zero, suc, ◌-◌, ℤ, pos}
+use Rattle.theory.specs.Basics.{List, set, replicate, ℕ, zero, suc, ℤ, pos}
 
 abbrev pub first-column : ℕ → ℕ → List ℤ
 first-column lines n = replicate lines (pos 1) ++ replicate (n - lines) (pos 0)

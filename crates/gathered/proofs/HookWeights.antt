@@ -1,19 +1,19 @@
 -- The hook lines of a line, by those of the same line without its coefficient (document 02, P7, "Each hook brings the
 -- chosen line's coefficient times its own sign"); and that no two of them are equal, nor one to the line itself.
 --   waiting_of cycle l   the hooks of l that do not leave the empty shape
+use Rattle.std.specs.Prelude.{◌∷◌, ◌*ℤ◌}
 use mathlib.Core.Path.{◌≡◌, refl, sym, ◌∙◌, ap}
 use mathlib.Core.Bool.{false≢true}
 use mathlib.Core.List.{map-map}
 use native.Mathlib.Omega.{arith}
-use borrow.Author.Tests.{eqb-true, ne_eqb}
+use borrow.Author.Tests.{ne_eqb}
 use lib.Signed.{non_neg}
-use Rattle.theory.specs.Basics.{Bool, true, false, not, List, [], ◌∷◌, map, ℕ, ◌*◌}
-use Rattle.theory.specs.Basics.{pos, ◌*ℤ◌, nat_abs, signed, ◌=?◌, keep, every, sum, Each}
-use Rattle.theory.proofs.Basics.Laws.{both, each_same, each_member, map_same, sum_same, sum-map}
+use Rattle.theory.specs.Basics.{Bool, true, false, not, List, [], map, ℕ}
+use Rattle.theory.specs.Basics.{pos, nat_abs, signed, ◌=?◌, keep, every, sum, Each}
+use Rattle.theory.proofs.Basics.Laws.{each_same, each_member, map_same, sum_same, sum-map}
 use Rattle.theory.proofs.Basics.Keep.{each-every, each-kept, keep-map}
 use Rattle.theory.proofs.Basics.Integers.Products.{times-sums, times-signed, times-one}
-use Rattle.theory.specs.Partition.{degree, without}
-use Rattle.theory.specs.ShapeWord.{shape_of}
+use Rattle.theory.specs.Partition.{without}
 use Rattle.theory.proofs.ShapeWord.Good.{good-shape}
 use Rattle.theory.specs.ClassWord.{class_of, class_word}
 use Rattle.theory.proofs.ClassWord.Laws.{good-class}
@@ -29,11 +29,10 @@ use Rattle.pages.specs.Line.Weights.{weight_of}
 use Rattle.pages.specs.Page.{line_of, word_of}
 use Rattle.pages.specs.Page.Words.{line_read}
 use Rattle.pages.specs.Mode.{unit, words_of, weights_of}
-use Rattle.pages.specs.Gathering.{alike, lasting, distinct}
+use Rattle.pages.specs.Gathering.{lasting, distinct}
 use Rattle.pages.specs.Gathering.Different.{Unlike, one_more, different-none, different-keep}
 use Rattle.pages.specs.Sound.Laws.{SoundLine}
 use Rattle.sessions.specs.Step.{empty, settled_hooks, waiting_hooks}
-use Rattle.sessions.specs.Step.Strike.{cycle-positive}
 use Rattle.gathered.specs.Private.Striking.{cleared, turned}
 
 -- ---- by their hooks

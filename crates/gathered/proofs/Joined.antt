@@ -1,16 +1,17 @@
 -- What the code makes of lines and hook lines is what gathering them gives. Both are words with coefficients beside
 -- them: xs and zs the lines, ys and ws the hook lines.
 --   new ys ws   the hook lines that no line is equal to
+use Rattle.std.specs.Prelude.{◌&&◌, ◌∷◌, ◌++◌, ◌+◌, ◌-◌, ◌/◌, ◌%◌, ◌^◌, ◌+ℤ◌}
 use mathlib.Core.Path.{◌≡◌, refl, sym, ◌∙◌, ap, ap₂}
 use mathlib.Core.List.{map-map}
-use Prim.Native.Nat.{◌≤◌, ◌<◌}
+use Prim.Native.Nat.{◌≤◌}
 use native.Mathlib.Omega.{arith}
 use borrow.Author.Tests.{eqb-true, eq-eqb, ne_eqb, lt-ltb, ltb-true}
 use lib.IntN.{+ℤ_idr}
 use lib.ListN.{length-append, length-map, length-replicate, length-set}
-use Rattle.theory.specs.Basics.{Bool, true, false, not, cond, ◌&&◌, List, [], ◌∷◌, ◌++◌, map, length, get_or, set, take}
+use Rattle.theory.specs.Basics.{Bool, true, false, not, cond, List, [], map, length, get_or, set, take}
 use Rattle.theory.specs.Basics.{drop, replicate}
-use Rattle.theory.specs.Basics.{ℕ, zero, suc, ◌+◌, ◌-◌, ◌/◌, ◌%◌, ◌^◌, ℤ, pos, ◌+ℤ◌, nat_abs, ◌=?◌, ◌<?◌, keep}
+use Rattle.theory.specs.Basics.{ℕ, zero, suc, ℤ, pos, nat_abs, ◌=?◌, ◌<?◌, keep}
 use Rattle.theory.specs.Basics.{every}
 use Rattle.theory.specs.Basics.{total, sum}
 use Rattle.theory.proofs.Basics.Laws.{both, each_same, each_member, map_same}

@@ -1,8 +1,9 @@
 -- The sizes of weights: a line counts no more than all lines, and small lines have small numbers beside them.
+use Rattle.std.specs.Prelude.{◌∷◌, ◌+◌, ◌^◌}
 use mathlib.Core.Path.{◌≡◌}
 use Prim.Native.Nat.{◌≤◌, ◌<◌}
 use native.Mathlib.Omega.{arith}
-use Rattle.theory.specs.Basics.{List, [], ◌∷◌, length, ℕ, zero, suc, ◌+◌, ◌^◌, ℤ, nat_abs, Each}
+use Rattle.theory.specs.Basics.{List, [], length, ℕ, zero, suc, ℤ, nat_abs, Each}
 use Rattle.theory.proofs.Basics.Laws.{each_same}
 use Rattle.pages.specs.Line.{Line}
 use Rattle.pages.specs.Mode.{alongside}

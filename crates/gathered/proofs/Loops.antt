@@ -1,6 +1,7 @@
 -- What one turn of each loop of `joining` does: what the rest makes of the present state is what the whole makes of the
 -- first.
 --   run e xs k p i   a front xs, then k times e, then p from the place i on
+use Rattle.std.specs.Prelude.{◌∷◌, ◌++◌, ◌+◌, ◌*◌, ◌^◌, ◌+ℤ◌}
 use mathlib.Core.Path.{◌≡◌, refl, sym, ◌∙◌, ap}
 use mathlib.Core.List.{append_assoc}
 use Prim.Native.Nat.{◌≤◌, ◌<◌}
@@ -11,9 +12,9 @@ use native.Mathlib.Omega.{arith}
 use borrow.Author.Tests.{eq-eqb, ne_eqb, lt-ltb, le-ltb}
 use lib.ListN.{length-append, length-replicate, drop_of_length-le}
 use lib.Seq.{sets, drop-cons, set_at, set_out, append_snoc, get_or-set_same, get_or-set_other}
-use Rattle.theory.specs.Basics.{Bool, true, false, cond, List, [], ◌∷◌, ◌++◌, map, length, get_or, set, drop}
+use Rattle.theory.specs.Basics.{Bool, true, false, cond, List, [], map, length, get_or, set, drop}
 use Rattle.theory.specs.Basics.{replicate, ℕ, zero}
-use Rattle.theory.specs.Basics.{suc, ◌+◌, ◌-◌, ◌*◌, ◌^◌, ℤ, pos, ◌+ℤ◌, nat_abs, ◌=?◌, ◌<?◌}
+use Rattle.theory.specs.Basics.{suc, ℤ, pos, nat_abs, ◌=?◌, ◌<?◌}
 use Rattle.theory.proofs.Bounds.Laws.{abs-add}
 use Rattle.gathered.specs.Private.Joining.{place, Small, saved_at, saved_by, raised, picked}
 

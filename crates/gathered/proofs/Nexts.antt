@@ -1,5 +1,6 @@
 -- What the code leaves of a page, its column and the hook lines that are joined to it: the lines that come of it,
 -- written down.
+use Rattle.std.specs.Prelude.{◌∷◌, ◌++◌, ◌+◌, ◌-◌}
 use mathlib.Core.Path.{◌≡◌, refl, sym, ◌∙◌, ap, ap₂}
 use mathlib.Core.List.{map-append, append_assoc, append-nil}
 use Prim.Native.Nat.{◌≤◌}
@@ -8,8 +9,7 @@ use native.Mathlib.Omega.{arith}
 use borrow.Author.Tests.{eqb-true}
 use lib.ListN.{length-append, length-map, length-drop, length-replicate, length-set}
 use lib.Seq.{length-take-le, sets, set_at, append_snoc}
-use Rattle.theory.specs.Basics.{true, List, [], ◌∷◌, ◌++◌, map, length, set, take, drop, replicate, ℕ, zero, suc, ◌+◌}
-use Rattle.theory.specs.Basics.{◌-◌}
+use Rattle.theory.specs.Basics.{true, List, [], map, length, set, take, drop, replicate, ℕ, zero, suc}
 use Rattle.theory.specs.Basics.{ℤ, pos, negsuc, nat_abs, ◌=?◌, keep, every, Each}
 use Rattle.theory.proofs.Basics.Laws.{both, each_same}
 use Rattle.theory.proofs.Basics.Keep.{every-each, length-keep}

@@ -1,11 +1,12 @@
 -- From the tests of an opening in the gathered mode, and what the plain opening gives, to what it is promised to answer
 -- and to leave.
 --   of-mode k t   the slip t in the mode numbered k
+use Rattle.std.specs.Prelude.{◌∷◌, ◌++◌}
 use mathlib.Core.Path.{◌≡◌, refl, sym, ◌∙◌, ap, ap₂}
 use Prim.Native.Nat.{◌≤◌, ◌<◌}
 use native.Mathlib.Omega.{arith}
 use borrow.Author.Tests.{lt-ltb, le-ltb, eq-eqb, ne_eqb, ltb-false}
-use Rattle.theory.specs.Basics.{true, false, cond, List, [], ◌∷◌, ◌++◌, map, length, replicate, ℕ, ◌-◌, ℤ, pos}
+use Rattle.theory.specs.Basics.{true, false, cond, List, [], map, length, replicate, ℕ, ℤ, pos}
 use Rattle.theory.specs.Basics.{◌=?◌}
 use Rattle.theory.specs.Limits.{page_limit}
 use Rattle.theory.specs.Partition.{degree}

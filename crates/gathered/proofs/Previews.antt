@@ -1,10 +1,11 @@
 -- A preview in the gathered mode is that of the line by itself.
+use Rattle.std.specs.Prelude.{◌∷◌, ◌++◌, ◌%◌, ◌^◌}
 use mathlib.Core.Path.{◌≡◌, refl, sym, ◌∙◌, ap, ap₂}
 use Prim.Native.Nat.{◌≤◌, ◌<◌}
 use native.Mathlib.Nat.{le_refl}
 use native.Mathlib.Omega.{arith}
 use borrow.Author.Tests.{le-leb, lt-leb}
-use Rattle.theory.specs.Basics.{List, [], ◌∷◌, ◌++◌, map, length, ℕ, ◌%◌, ◌^◌, ℤ}
+use Rattle.theory.specs.Basics.{List, [], map, length, ℕ, ℤ}
 use Rattle.theory.specs.Limits.{page_limit}
 use Rattle.theory.specs.ClassWord.{class_of}
 use Rattle.theory.specs.Refusals.{Check, first_of, refused_or, no-8, no_9, no-18}

@@ -1,10 +1,11 @@
 -- A product of two signed numbers of 64 bits that has room is the whole numbers' product.
+use Rattle.std.specs.Prelude.{◌*ℤ◌, ◌*◌, ◌^◌}
 use mathlib.Core.Path.{◌≡◌, ◌∙◌, ap₂}
 use Prim.Native.Nat.{◌<◌}
 use mir.Facts.{to_z-of_z}
 use mir.Syntax.{w64}
 use mir.Val.{SFits}
-use Rattle.theory.specs.Basics.{ℤ, ◌*ℤ◌, nat_abs, ◌*◌, ◌^◌}
+use Rattle.theory.specs.Basics.{ℤ, nat_abs}
 use Rattle.theory.proofs.Basics.Integers.Products.{abs-times}
 use Rattle.pages.proofs.Signed.{carried, room}
 

@@ -1,7 +1,8 @@
 -- The ratio of a line of the gathered mode is the plain watch of the line by itself.
+use Rattle.std.specs.Prelude.{◌∷◌}
 use mathlib.Core.Path.{◌≡◌, refl}
 use Prim.Native.Nat.{◌≤◌, ◌<◌}
-use Rattle.theory.specs.Basics.{[], ◌∷◌, ℕ, ℤ}
+use Rattle.theory.specs.Basics.{[], ℕ, ℤ}
 use Rattle.theory.specs.Limits.{page_limit}
 use Rattle.theory.specs.Refusals.{first_of, no-8, no-15}
 use Rattle.theory.proofs.Refusals.Laws.{first_passes}

@@ -1,11 +1,12 @@
 -- A line of a page and a column beside it, as the code reads it: a word and its coefficient.
 --   word_at, coefficient_at    what stands at a place of the page, and of the column
 --   Passed limit slip ..     what it tells that 6, 21 and 7 do not refuse slip, page and column
+use Rattle.std.specs.Prelude.{◌^◌}
 use mathlib.Core.Path.{◌≡◌, sym, ◌∙◌, ap}
 use Prim.Native.Nat.{◌≤◌, ◌<◌}
 use native.Mathlib.Omega.{arith}
 use lib.Seq.{length-take-le, get_or-take}
-use Rattle.theory.specs.Basics.{List, length, get_or, take, ℕ, ◌^◌, ℤ, pos, Each}
+use Rattle.theory.specs.Basics.{List, length, get_or, take, ℕ, ℤ, pos, Each}
 use Rattle.theory.proofs.Basics.AtPlace.{each_at}
 use Rattle.theory.proofs.Basics.Laws.{each_same}
 use Rattle.theory.specs.Bounds.Laws.{largest_limit}

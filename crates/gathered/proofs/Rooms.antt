@@ -1,12 +1,13 @@
 -- Whether hook lines have room: as many lines come of them as there are lines but one and hook lines, less those that
 -- are spared.
+use Rattle.std.specs.Prelude.{◌+◌, ◌-◌}
 use mathlib.Core.Path.{◌≡◌, refl, sym, ◌∙◌, ap}
 use Prim.Native.Nat.{◌≤◌, ◌<◌}
 use native.Mathlib.Omega.{arith}
 use borrow.Author.Tests.{lt-ltb, le-ltb}
 use lib.ListN.{length-map}
 use lib.Seq.{length-take-le, sets, sets-eq, length-sets, take_at}
-use Rattle.theory.specs.Basics.{true, false, List, map, length, take, ℕ, ◌+◌, ◌-◌, ℤ}
+use Rattle.theory.specs.Basics.{true, false, List, map, length, take, ℕ, ℤ}
 use Rattle.theory.specs.Limits.{degree_limit}
 use Rattle.words.specs.Answers.{Outcome}
 use Rattle.pages.specs.Line.{Line}

@@ -1,11 +1,12 @@
 -- Sums of whole numbers that have room, as 64 bits make them and test them for 0.
+use Rattle.std.specs.Prelude.{◌+◌, ◌^◌, ◌+ℤ◌}
 use mathlib.Core.Path.{◌≡◌, refl, sym, ◌∙◌, ap, ap₂}
 use Prim.Native.Nat.{◌<◌}
 use native.Mathlib.Omega.{arith}
 use mir.Facts.{to_z-of_z}
 use mir.Syntax.{w64}
 use mir.Val.{SFits, to_z, of_z}
-use Rattle.theory.specs.Basics.{◌+◌, ◌^◌, ℤ, pos, negsuc, ◌+ℤ◌, nat_abs}
+use Rattle.theory.specs.Basics.{ℤ, pos, negsuc, nat_abs}
 use Rattle.pages.proofs.Signed.{carried, carried-is, sum_is}
 
 -- a number that is not 0 in 64 bits has a size

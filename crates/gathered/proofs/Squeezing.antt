@@ -1,5 +1,6 @@
 -- The pass that takes out the lines whose coefficient became 0.
 --   Squeezing p c q d t i   the page p and the column c have become q and d: of the first i lines t were kept
+use Rattle.std.specs.Prelude.{◌∷◌, ◌++◌, ◌+◌, ◌-◌}
 use mathlib.Core.Path.{◌≡◌, refl, sym, ◌∙◌, ap, ap₂}
 use mathlib.Core.List.{append-nil, map-append}
 use Prim.Native.Nat.{◌≤◌, ◌<◌}
@@ -8,9 +9,9 @@ use native.Mathlib.Omega.{arith}
 use borrow.Author.Tests.{eq-eqb, ne_eqb}
 use lib.ListN.{length-append, length-map, length-replicate, length-drop, drop_of_length-le}
 use lib.Seq.{take-suc, take_all, get_or_at, length-take-le}
-use Rattle.theory.specs.Basics.{List, [], ◌∷◌, ◌++◌, map, length, get_or, set, take, drop, replicate, ℕ}
+use Rattle.theory.specs.Basics.{List, [], map, length, get_or, set, take, drop, replicate, ℕ}
 use Rattle.theory.specs.Basics.{suc}
-use Rattle.theory.specs.Basics.{◌+◌, ◌-◌, ℤ, pos, nat_abs, keep}
+use Rattle.theory.specs.Basics.{ℤ, pos, nat_abs, keep}
 use Rattle.theory.proofs.Basics.Keep.{keep_append}
 use Rattle.words.specs.Answers.{Outcome}
 use Rattle.pages.specs.Line.{Line}

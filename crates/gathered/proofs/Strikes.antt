@@ -1,5 +1,6 @@
 -- A line of the gathered mode struck by itself: the plain commit on its one line is refused as the gathered commit is,
 -- and leaves the hook lines that wait.
+use Rattle.std.specs.Prelude.{◌∷◌, ◌++◌, ◌*◌, ◌^◌, ◌+ℤ◌, ◌*ℤ◌}
 use mathlib.Core.Path.{◌≡◌, refl, sym, ◌∙◌, ap, ap₂}
 use mathlib.Core.List.{append_assoc}
 use Prim.Native.Nat.{◌≤◌, ◌<◌}
@@ -10,9 +11,9 @@ use borrow.Author.Tests.{le-ltb, eqb-false}
 use lib.IntN.{+ℤ_idl}
 use lib.ListN.{length-map}
 use lib.Seq.{sets, sets-eq, length-sets, take_at}
-use Rattle.theory.specs.Basics.{false, List, [], ◌∷◌, ◌++◌, map, length, take, ℕ, ◌+◌, ◌-◌, ◌*◌}
-use Rattle.theory.specs.Basics.{◌^◌, ℤ, pos}
-use Rattle.theory.specs.Basics.{◌+ℤ◌, ◌*ℤ◌, nat_abs, sum, ◌=?◌, Each}
+use Rattle.theory.specs.Basics.{false, List, [], map, length, take, ℕ}
+use Rattle.theory.specs.Basics.{ℤ, pos}
+use Rattle.theory.specs.Basics.{nat_abs, sum, ◌=?◌, Each}
 use Rattle.theory.proofs.Basics.Integers.Products.{abs-times}
 use Rattle.theory.proofs.Basics.Laws.{each_same}
 use Rattle.theory.proofs.Bounds.Laws.{factorial-positive}
@@ -43,9 +44,9 @@ use Rattle.sessions.specs.declared.Handed.{Handed}
 use Rattle.sessions.specs.Opening.{handed}
 use Rattle.sessions.specs.Step.{settled_hooks, waiting_hooks, next_lines_in, next_slip_in, commit_in}
 use Rattle.sessions.specs.Step.{next_lines, next_slip, commit_checks, commit}
-use Rattle.sessions.specs.Step.Strike.{each-waiting, strike-value}
-use Rattle.sessions.specs.Step.Laws.{NamedOn, named-on}
-use Rattle.sessions.specs.Step.Previews.{few-new}
+use Rattle.sessions.proofs.Step.Strike.{each-waiting, strike-value}
+use Rattle.sessions.proofs.Step.Laws.{NamedOn, named-on}
+use Rattle.sessions.proofs.Step.Previews.{few-new}
 use Rattle.gathered.specs.declared.commits.Struck.{Struck}
 use Rattle.gathered.specs.Private.Alone.{alone}
 use Rattle.gathered.specs.Private.Striking.{cleared, turned, struck_checks, Strikes}

@@ -1,8 +1,9 @@
 -- A line's coefficient times its character, in 64 bits: both have room, as has a sum with them.
+use Rattle.std.specs.Prelude.{◌*◌, ◌^◌, ◌*ℤ◌}
 use mathlib.Core.Path.{◌≡◌, ◌∙◌, ap, ap₂}
 use Prim.Native.Nat.{◌≤◌, ◌<◌}
 use native.Mathlib.Omega.{arith}
-use Rattle.theory.specs.Basics.{ℕ, ◌*◌, ◌^◌, ℤ, pos, ◌*ℤ◌, nat_abs}
+use Rattle.theory.specs.Basics.{ℕ, ℤ, pos, nat_abs}
 use Rattle.theory.proofs.Basics.Integers.Products.{abs-times}
 use Rattle.theory.specs.Bounds.Laws.{largest_limit}
 use Rattle.theory.specs.ShapeWord.{shape_of}

@@ -3,8 +3,9 @@
 --   line_of x            the line of the word x: its weight is 1, or -1 where bit 31 of its shape word is set
 --   word_of l            (signed shape word) times 2^32 plus (class word)
 --   plain minus s c     a line of this sign, shape word and class word
+use Rattle.std.specs.Prelude.{◌+◌, ◌*◌, ◌/◌, ◌%◌, ◌^◌}
 use Rattle.std.specs.Int.Signed.{non_neg}
-use Rattle.theory.specs.Basics.{Bool, cond, ℕ, ◌+◌, ◌*◌, ◌/◌, ◌%◌, ◌^◌, ℤ, pos, signed}
+use Rattle.theory.specs.Basics.{Bool, cond, ℕ, ℤ, pos, signed}
 use Rattle.theory.specs.Digits.{bit}
 
 pub record Line : Type 0 where

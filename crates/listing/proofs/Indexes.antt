@@ -1,11 +1,12 @@
 -- Where shape words stand in the table of all of them, and how a word is searched for; what holds of any such list of
 -- words is theory's (Listing/Words).
+use Rattle.std.specs.Prelude.{◌∷◌, ◌+◌}
 use mathlib.Core.Path.{◌≡◌, refl, sym, ◌∙◌, ap}
 use Prim.Native.Nat.{◌≤◌, ◌<◌}
 use native.Mathlib.Decide.{ℕ_discrete}
 use native.Mathlib.Omega.{arith}
 use borrow.Author.Tests.{le-ltb, ltb-false}
-use Rattle.theory.specs.Basics.{[], ◌∷◌, ℕ, suc, ◌+◌, get_or, length}
+use Rattle.theory.specs.Basics.{[], ℕ, suc, get_or, length}
 use Rattle.theory.specs.Partition.{degree}
 use Rattle.theory.specs.ShapeWord.{shape_of}
 use Rattle.theory.proofs.ShapeWord.Good.{shape-good}

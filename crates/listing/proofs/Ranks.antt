@@ -2,12 +2,13 @@
 --   at n r             the partition of rank r in the listing of degree n
 --   blank limit        as many zeros as a partition within the limit has parts at most
 --   Listed limit n r   the degree is within the limit, and the rank in the list
+use Rattle.std.specs.Prelude.{◌∷◌}
 use mathlib.Core.Path.{◌≡◌, refl, sym, ◌∙◌, ap}
 use Prim.Native.Nat.{◌≤◌, ◌<◌}
 use native.Mathlib.Omega.{arith}
 use lib.ListN.{length-replicate}
 use borrow.Author.Tests.{le-ltb, le-leb, lt-leb, ltb-false, leb-false}
-use Rattle.theory.specs.Basics.{true, List, [], ◌∷◌, ℕ, ℤ, pos, length, get_or, take, replicate}
+use Rattle.theory.specs.Basics.{true, List, [], ℕ, ℤ, pos, length, get_or, take, replicate}
 use Rattle.theory.specs.Partition.{Parts, is_partition, degree}
 use Rattle.theory.proofs.Partition.Laws.{length-degree}
 use Rattle.theory.specs.ShapeWord.{shape_word, shape_of}

@@ -3,7 +3,8 @@
 --   words_within limit     the words of all shapes within the limit, degree by degree, each degree in listing order
 --   section_of limit n     where the words of degree n start among them, and how many they are
 --   rank_checks limit n r  the checks of a degree n and a rank r
-use Rattle.theory.specs.Basics.{[], ◌∷◌, get_or, List, length, ℕ, suc, pos}
+use Rattle.std.specs.Prelude.{◌∷◌}
+use Rattle.theory.specs.Basics.{[], get_or, List, length, ℕ, suc, pos}
 use Rattle.theory.specs.ShapeWord.{shape_word, shape_of}
 use Rattle.theory.specs.ClassWord.{class_word, class_of}
 use Rattle.theory.specs.Listing.{listing, rank, words_below, start}

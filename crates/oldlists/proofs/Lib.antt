@@ -1,2 +1,4 @@
+pub mod Calls
+pub mod Lists
 pub mod MovedLists
 pub mod Unique

@@ -1,13 +1,14 @@
 -- How a list's move answers: refused for the lengths, refused for a word, or moved.
+use Rattle.std.specs.Prelude.{◌∷◌}
 use mathlib.Core.Path.{◌≡◌, refl, sym, ◌∙◌, ap}
 use borrow.Author.Tests.{eq-eqb, ne_eqb, lt-leb, ltb-true, ltb-false}
-use Rattle.theory.specs.Basics.{true, false, List, [], ◌∷◌, map, length, ℕ, ◌<?◌}
+use Rattle.theory.specs.Basics.{true, false, List, [], map, length, ℕ, ◌<?◌}
 use Rattle.theory.specs.Limits.{list_limit}
 use Rattle.theory.specs.Refusals.{Check, first_of, no-20}
 use Rattle.theory.proofs.Refusals.Laws.{or-refused, or-given}
 use Rattle.words.specs.Answers.{Outcome}
 use Rattle.oldlists.specs.Lists.{ListAnswer, list_answer, first_bad, judged, moved}
-use Rattle.oldlists.specs.Lists.Laws.{lengths-fit}
+use Rattle.oldlists.proofs.Lists.Laws.{lengths-fit}
 
 -- ---- the lengths
 module _ (given lent : List ℕ) where

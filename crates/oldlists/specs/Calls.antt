@@ -5,7 +5,6 @@ use Rattle.theory.specs.Basics.{List, ℕ}
 use Rattle.theory.specs.Refusals.{good_shape_checks, class_checks}
 use Rattle.theory.specs.OldForm.{new_word, old_word}
 use Rattle.oldlists.specs.Lists.{ListAnswer, moved}
-pub mod Laws
 
 module _ (limit : ℕ) where
   unfoldable pub shapes_from_old : List ℕ → List ℕ → ListAnswer × List ℕ

@@ -5,10 +5,10 @@
 --                                  where the first word of all has the index i; 0 and 0 if they refuse none
 --   judged checks given lent       20, or what refuses the first bad word of the given list
 --   moved checks move given lent   the answer, and the lent list: move w in the place of each w given, or as it was
-use Rattle.theory.specs.Basics.{List, [], ◌∷◌, map, ℕ, suc}
+use Rattle.std.specs.Prelude.{◌∷◌}
+use Rattle.theory.specs.Basics.{List, [], map, ℕ, suc}
 use Rattle.theory.specs.Refusals.{Check, first_of, refused_or, no-20}
 pub use Rattle.oldlists.specs.declared.ListAnswer.{ListAnswer}
-pub mod Laws
 
 abbrev pub list_answer : ℕ → ℕ → ListAnswer
 list_answer k i = record { refused = k; index = i }

@@ -1,4 +1,5 @@
 -- Words that differ from each other, one word more at a time.
+use Rattle.std.specs.Prelude.{◌&&◌, ◌∷◌, ◌++◌, ◌+◌}
 use mathlib.Core.Path.{◌≡◌, refl, sym, ◌∙◌, ap}
 use mathlib.Core.Bool.{false≢true, and-true, and_assoc}
 use Prim.Native.Nat.{◌≤◌, ◌<◌}
@@ -7,8 +8,8 @@ use native.Mathlib.Numerals.{add-one}
 use borrow.Author.Tests.{eq-eqb, ne_eqb}
 use lib.ListN.{take-append-drop}
 use lib.Seq.{take-suc, take_all}
-use Rattle.theory.specs.Basics.{Bool, true, false, not, ◌&&◌, List, [], ◌∷◌, ◌++◌, length, get_or, take, drop}
-use Rattle.theory.specs.Basics.{every, ℕ, suc, ◌+◌, ◌=?◌}
+use Rattle.theory.specs.Basics.{Bool, true, false, not, List, [], length, get_or, take, drop}
+use Rattle.theory.specs.Basics.{every, ℕ, suc, ◌=?◌}
 use Rattle.theory.proofs.Basics.Laws.{both}
 use Rattle.pages.specs.Private.Differences.{all_different, absent}
 

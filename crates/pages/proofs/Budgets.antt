@@ -1,4 +1,5 @@
 -- Two budgets that fall as the words of a page are read: what one word does to them, and what they are at first.
+use Rattle.std.specs.Prelude.{◌&&◌, ◌∷◌, ◌+◌, ◌-◌, ◌*◌}
 use mathlib.Core.Path.{◌≡◌, refl, sym, ◌∙◌, ap}
 use mathlib.Core.Bool.{false≢true}
 use Prim.Native.Nat.{min, ◌≤◌, ◌<◌}
@@ -8,8 +9,8 @@ use borrow.Author.Tests.{le-leb, lt-leb, ne_eqb}
 use lib.ListN.{drop_of_length-le}
 use lib.Seq.{drop-cons}
 use lib.Signed.{non_neg}
-use Rattle.theory.specs.Basics.{Bool, true, false, cond, ◌&&◌, List, ◌∷◌, map, length, get_or, drop, ℕ, ◌+◌, ◌-◌}
-use Rattle.theory.specs.Basics.{◌*◌, nat_abs, ◌≤?◌}
+use Rattle.theory.specs.Basics.{Bool, true, false, cond, List, map, length, get_or, drop, ℕ}
+use Rattle.theory.specs.Basics.{nat_abs, ◌≤?◌}
 use Rattle.theory.proofs.Basics.Laws.{both}
 use Rattle.theory.specs.Bounds.{factorial, S}
 use Rattle.theory.specs.ShapeWord.{good_shape}

@@ -1,6 +1,7 @@
 -- Chains of words: what a walk along a chain tells of all words, and how the chains of one word more are made. The laws
 -- hold whatever number of a word is its chain.
 --   Next f xs heads links i h   the word i comes next, on the chain h
+use Rattle.std.specs.Prelude.{◌&&◌, ◌+◌, ◌-◌, ◌%◌}
 use mathlib.Core.Path.{◌≡◌, refl, sym, ◌∙◌, ap}
 use mathlib.Core.Bool.{and-true, and-false}
 use Prim.Native.Nat.{◌≤◌, ◌<◌}
@@ -10,8 +11,8 @@ use native.Mathlib.Omega.{arith}
 use borrow.Author.Tests.{eq-eqb, ne_eqb, lt-ltb, le-ltb}
 use lib.ListN.{length-set, length-replicate}
 use lib.Seq.{get_or-set_same, get_or-set_other}
-use Rattle.theory.specs.Basics.{false, not, ◌&&◌, List, length, get_or, set, take, replicate, Each}
-use Rattle.theory.specs.Basics.{ℕ, zero, suc, ◌+◌, ◌-◌, ◌%◌, ◌=?◌}
+use Rattle.theory.specs.Basics.{false, not, List, length, get_or, set, take, replicate, Each}
+use Rattle.theory.specs.Basics.{ℕ, zero, suc, ◌=?◌}
 use Rattle.theory.proofs.Basics.AtPlace.{each_at}
 use Rattle.theory.specs.Limits.{page_limit}
 use Rattle.pages.specs.Private.Differences.{absent, few_chains, many_chains, chain_of, latest, Chained, Walk, Room}

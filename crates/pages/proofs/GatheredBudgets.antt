@@ -2,14 +2,15 @@
 -- leave for what the coefficients ask for besides.
 --   clear xs zs        no word has its sign digit set, and no coefficient is 0
 --   more limit xs zs   what the coefficients ask for besides, in all
+use Rattle.std.specs.Prelude.{◌&&◌, ◌∷◌, ◌+◌, ◌-◌, ◌*◌, ◌/◌, ◌^◌}
 use mathlib.Core.Path.{◌≡◌, refl, sym, ◌∙◌, ap, ap₂}
 use mathlib.Core.Bool.{false≢true, and-false}
 use Prim.Native.Nat.{min, ◌≤◌, ◌<◌}
 use native.Mathlib.Nat.{add-mul}
 use native.Mathlib.Omega.{arith}
 use borrow.Author.Tests.{le-ltb, ltb-true, ltb-false, le-leb, leb-true, lt-leb, leb-false, eqb-false, not-true}
-use Rattle.theory.specs.Basics.{Bool, true, false, not, cond, ◌&&◌, List, [], ◌∷◌, map, length, ℕ, ◌+◌, ◌-◌}
-use Rattle.theory.specs.Basics.{◌*◌, ◌/◌, ◌^◌, ℤ, nat_abs, ◌=?◌, ◌≤?◌, ◌<?◌, every}
+use Rattle.theory.specs.Basics.{Bool, true, false, not, cond, List, [], map, length, ℕ}
+use Rattle.theory.specs.Basics.{ℤ, nat_abs, ◌=?◌, ◌≤?◌, ◌<?◌, every}
 use Rattle.theory.proofs.Basics.Laws.{both}
 use Rattle.theory.proofs.Basics.Keep.{same_test}
 use Rattle.theory.specs.Bounds.{factorial}

@@ -1,11 +1,12 @@
 -- Whether slip, page and coefficients are sound in the gathered mode, test by test, and why they are refused.
+use Rattle.std.specs.Prelude.{◌&&◌}
 use mathlib.Core.Path.{◌≡◌, sym, ◌∙◌, ap}
 use mathlib.Core.Bool.{and_assoc, and_comm}
 use Prim.Native.Nat.{◌≤◌, ◌<◌}
 use native.Mathlib.Omega.{arith}
 use borrow.Author.Tests.{lt-ltb, le-ltb, eq-eqb, ne_eqb}
 use lib.Seq.{length-take-le}
-use Rattle.theory.specs.Basics.{Bool, true, false, ◌&&◌, List, length, take, drop, ℕ, ℤ, nat_abs, ◌=?◌, every}
+use Rattle.theory.specs.Basics.{Bool, true, false, List, length, take, drop, ℕ, ℤ, nat_abs, ◌=?◌, every}
 use Rattle.theory.specs.Limits.{page_limit}
 use Rattle.theory.specs.Refusals.{first_of}
 use Rattle.pages.specs.Line.{Line}

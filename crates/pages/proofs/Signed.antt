@@ -2,7 +2,7 @@
 -- the size of any number, of the least too.
 --   carried z   what 64 bits make of the whole number z: z itself, if its size is below 2^63
 --   Turned z    a number below 0, one added and the sign turned
-use mathlib.Core.Path.{◌≡◌, refl, sym, ◌∙◌, ap, ap₂}
+use mathlib.Core.Path.{◌≡◌, refl, ◌∙◌, ap, ap₂}
 use mathlib.Core.Bool.{true, not, false≢true}
 use Prim.Native.Nat.{ℕ, zero, suc, ◌+◌, ◌-◌, ◌^◌, ◌≤◌, ◌<◌}
 use native.Mathlib.Omega.{arith}

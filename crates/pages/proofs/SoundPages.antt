@@ -1,4 +1,5 @@
 -- Whether what is lent in a mode is sound, test by test; and why slip and page are refused in the plain mode.
+use Rattle.std.specs.Prelude.{◌&&◌}
 use mathlib.Core.Path.{◌≡◌, sym, ◌∙◌, ap}
 use mathlib.Core.Bool.{and-true, and-false}
 use Prim.Native.Nat.{◌≤◌, ◌<◌}
@@ -6,7 +7,7 @@ use native.Mathlib.Omega.{arith}
 use borrow.Author.Tests.{lt-ltb, le-ltb, lt-leb, le-leb, eq-eqb, ne_eqb}
 use lib.ListN.{get_or-map, length-map}
 use lib.Seq.{length-take-le, get_or-take}
-use Rattle.theory.specs.Basics.{Bool, true, false, ◌&&◌, List, length, get_or, take, drop, ℕ, ◌=?◌, every}
+use Rattle.theory.specs.Basics.{Bool, true, false, List, length, get_or, take, drop, ℕ, ◌=?◌, every}
 use Rattle.theory.proofs.Basics.AtPlace.{each_at}
 use Rattle.theory.specs.Limits.{page_limit}
 use Rattle.theory.specs.Refusals.{first_of}

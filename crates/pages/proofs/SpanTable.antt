@@ -1,8 +1,9 @@
 -- The table of S(d), and tables that are lent.
+use Rattle.std.specs.Prelude.{◌∷◌}
 use mathlib.Core.Path.{◌≡◌, refl}
 use Prim.Native.Nat.{◌≤◌}
 use native.Mathlib.Omega.{arith}
-use Rattle.theory.specs.Basics.{List, [], ◌∷◌, get_or, ℕ}
+use Rattle.theory.specs.Basics.{List, [], get_or, ℕ}
 use Rattle.theory.proofs.Basics.AtPlace.{tabled-at}
 use Rattle.theory.specs.Limits.{degree_limit}
 use Rattle.theory.specs.Bounds.{factorial, S}

@@ -1,5 +1,6 @@
 -- Lines of the gathered mode, as the code meets them: by their words, whose sign digits are to be clear, and by their
 -- coefficients.
+use Rattle.std.specs.Prelude.{◌&&◌, ◌∷◌, ◌+◌, ◌-◌, ◌/◌, ◌%◌, ◌^◌}
 use mathlib.Core.Path.{◌≡◌, refl, ap, ap₂}
 use Prim.Native.Nat.{◌≤◌, ◌<◌}
 use native.Mathlib.Numerals.{add-one}
@@ -7,8 +8,8 @@ use native.Mathlib.Omega.{arith}
 use borrow.Author.Tests.{le-ltb, lt-ltb, le-leb, lt-leb, eq-eqb, ne_eqb, eqb-true, eqb-false}
 use lib.ListN.{drop_of_length-le}
 use lib.Seq.{drop-cons}
-use Rattle.theory.specs.Basics.{Bool, true, false, not, ◌&&◌, List, [], ◌∷◌, length, get_or, drop, ℕ, ◌+◌, ◌-◌}
-use Rattle.theory.specs.Basics.{◌/◌, ◌%◌, ◌^◌, ℤ, pos, nat_abs, ◌=?◌, ◌≤?◌, ◌<?◌, every}
+use Rattle.theory.specs.Basics.{Bool, true, false, not, List, [], length, get_or, drop, ℕ}
+use Rattle.theory.specs.Basics.{ℤ, pos, nat_abs, ◌=?◌, ◌≤?◌, ◌<?◌, every}
 use Rattle.theory.proofs.Basics.Laws.{both}
 use Rattle.theory.proofs.Basics.Keep.{same_test}
 use Rattle.theory.specs.Digits.{bit}

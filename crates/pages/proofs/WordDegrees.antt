@@ -1,11 +1,12 @@
 -- The degree of one word, 0 where it is refused or no good word; and what is remembered of words.
 --   unless k n   n, or 0 where the number k refuses
+use Rattle.std.specs.Prelude.{◌∷◌, ◌*◌, ◌+◌, ◌/◌, ◌%◌}
 use mathlib.Core.Path.{◌≡◌, refl, sym, ◌∙◌, ap}
 use Prim.Native.Nat.{◌≤◌, ◌<◌}
 use native.Mathlib.Omega.{arith}
 use lib.ListN.{set}
-use Rattle.theory.specs.Basics.{Bool, true, false, cond, List, [], ◌∷◌, replicate, Each, ℕ, zero, suc, ◌*◌, ◌+◌, pos}
-use Rattle.theory.specs.Basics.{nat_abs, get_or, length, ◌/◌, ◌%◌}
+use Rattle.theory.specs.Basics.{Bool, true, false, cond, List, [], replicate, Each, ℕ, zero, suc, pos}
+use Rattle.theory.specs.Basics.{nat_abs, get_or, length}
 use Rattle.theory.proofs.Basics.AtPlace.{each_at}
 use Rattle.theory.specs.Digits.{digits}
 use Rattle.theory.specs.Partition.{degree}

@@ -8,9 +8,9 @@
 --                             other; overspent where b was, where l is not sound within n, cut off at the limit, or
 --                             where one does not suffice
 --   spent_all limit b lines    what the lines leave, one after the other
-use Rattle.std.specs.Prelude.{min}
+use Rattle.std.specs.Prelude.{min, ◌&&◌, ◌∷◌, ◌-◌}
 use Rattle.std.specs.Int.Signed.{non_neg}
-use Rattle.theory.specs.Basics.{true, false, cond, ◌&&◌, List, [], ◌∷◌, ℕ, ◌-◌, nat_abs, ◌≤?◌}
+use Rattle.theory.specs.Basics.{true, false, cond, List, [], ℕ, nat_abs, ◌≤?◌}
 use Rattle.theory.specs.Partition.{degree}
 use Rattle.theory.specs.ShapeWord.{shape_of}
 use Rattle.theory.specs.Bounds.{factorial, S}

@@ -8,7 +8,8 @@
 --   distinct lines         no two lines are equal
 --   gathered lines         no two lines are equal, and no weight is 0
 --   coefficient l lines    what the lines equal to l weigh together
-use Rattle.theory.specs.Basics.{Bool, true, not, cond, ◌&&◌, List, [], ◌∷◌, ℤ, ◌+ℤ◌, nat_abs, ◌=?◌, keep, every, sum}
+use Rattle.std.specs.Prelude.{◌&&◌, ◌∷◌, ◌+ℤ◌}
+use Rattle.theory.specs.Basics.{Bool, true, not, cond, List, [], ℤ, nat_abs, ◌=?◌, keep, every, sum}
 use Rattle.pages.specs.Line.{Line}
 pub mod Laws
 pub mod Sound

@@ -1,8 +1,8 @@
 -- What the theorems about sessions ask of a mode: that lines can be written down and read again, and that joining keeps
 -- what lines are worth and what is sound about them. Both modes have it (Lawful/Plain, Lawful/Gathered).
 --   Lawful m    the laws of the mode m; Written l, that the line l can be written down
-use Rattle.std.specs.Prelude.{◌≡◌, ◌≤◌, ◌<◌}
-use Rattle.theory.specs.Basics.{true, List, [], ◌∷◌, ◌++◌, length, take, drop, ℕ, suc, ◌+◌, ◌^◌, ◌+ℤ◌, nat_abs, sum}
+use Rattle.std.specs.Prelude.{◌≡◌, ◌≤◌, ◌<◌, ◌∷◌, ◌++◌, ◌+◌, ◌^◌, ◌+ℤ◌}
+use Rattle.theory.specs.Basics.{true, List, [], length, take, drop, ℕ, suc, nat_abs, sum}
 use Rattle.theory.specs.Basics.{Each}
 use Rattle.theory.specs.Limits.{page_limit}
 use Rattle.theory.specs.Refusals.{first_of}

@@ -3,7 +3,8 @@
 --   line_degree l         the degree of its shape
 --   signed_character l    its weight times its character
 --   hook_lines cycle l    for each hook, in hook order, a line: its sign multiplied in, its class without one such cycle
-use Rattle.theory.specs.Basics.{List, map, ℕ, ℤ, ◌*ℤ◌, signed}
+use Rattle.std.specs.Prelude.{◌*ℤ◌}
+use Rattle.theory.specs.Basics.{List, map, ℕ, ℤ, signed}
 use Rattle.theory.specs.Partition.{degree, without}
 use Rattle.theory.specs.ShapeWord.{shape_of}
 use Rattle.theory.specs.ClassWord.{class_word, class_of}

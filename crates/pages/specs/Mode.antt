@@ -21,8 +21,9 @@
 --   unit l               the line l with the weight 1
 --   words_of, weights_of   the words of lines, their sign digits clear, and the coefficients beside them
 --   waiting_in m slip x   the lines that wait; waiting slip page, in the plain mode
-use Rattle.theory.specs.Basics.{Bool, true, ◌&&◌, List, [], ◌∷◌, ◌++◌, map, length, take, drop, replicate, ℕ, ◌-◌, ◌/◌}
-use Rattle.theory.specs.Basics.{◌%◌, ◌^◌, ℤ, pos, nat_abs, ◌=?◌, every}
+use Rattle.std.specs.Prelude.{◌&&◌, ◌∷◌, ◌++◌, ◌-◌, ◌/◌, ◌%◌, ◌^◌}
+use Rattle.theory.specs.Basics.{Bool, true, List, [], map, length, take, drop, replicate, ℕ}
+use Rattle.theory.specs.Basics.{ℤ, pos, nat_abs, ◌=?◌, every}
 use Rattle.theory.specs.Refusals.{Check, no-6, no-21}
 use Rattle.pages.specs.Line.{Line}
 use Rattle.pages.specs.Gathering.{weighing, gather, gathered}

@@ -4,7 +4,8 @@
 --   padded lines page   the words of the lines, and zeros after them, as long as the page
 --   slip_of ..           a slip by its six fields; blank, all zeros
 --   worth slip lines    what every step keeps: settled plus the signed characters of the waiting lines
-use Rattle.theory.specs.Basics.{List, ◌++◌, map, length, get_or, replicate, ℕ, ◌-◌, ℤ, pos, ◌+ℤ◌, sum}
+use Rattle.std.specs.Prelude.{◌++◌, ◌-◌, ◌+ℤ◌}
+use Rattle.theory.specs.Basics.{List, map, length, get_or, replicate, ℕ, ℤ, pos, sum}
 pub use Rattle.linewords.specs.Word.{line_of, word_of, plain}
 pub use Rattle.pages.specs.declared.Slip.{Slip}
 use Rattle.pages.specs.Line.{Line, signed_character}

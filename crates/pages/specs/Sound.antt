@@ -9,8 +9,9 @@
 --                                 being 0, and of a slip that says this mode
 --   page_checks_in m ..             the checks of what is lent, and 7
 --   sound, page_checks             these in the plain mode: of a slip and a page, 6 and 7
+use Rattle.std.specs.Prelude.{◌&&◌, ◌∷◌, ◌++◌, ◌+◌, ◌*◌}
 use Rattle.std.specs.Int.Signed.{non_neg}
-use Rattle.theory.specs.Basics.{Bool, ◌&&◌, List, [], ◌∷◌, ◌++◌, map, length, ℕ, ◌+◌, ◌*◌, nat_abs, ◌=?◌, ◌≤?◌, every}
+use Rattle.theory.specs.Basics.{Bool, List, [], map, length, ℕ, nat_abs, ◌=?◌, ◌≤?◌, every}
 use Rattle.theory.specs.Basics.{total}
 use Rattle.theory.specs.Partition.{degree}
 use Rattle.theory.specs.ShapeWord.{good_shape, shape_of}

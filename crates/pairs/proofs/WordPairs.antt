@@ -2,11 +2,12 @@
 --   in_order a b rest      the number for both, where the shape's checks give a, the class's b, and `rest` is last
 --   Asked limit s c a b   a is the reading of the shape word s, and b the answer for the degree of the class word c
 --   Pair limit s c j      what the common degree j of the words s and c tells, if it does not refuse
+use Rattle.std.specs.Prelude.{◌∷◌}
 use mathlib.Core.Path.{◌≡◌, refl, sym, ◌∙◌, ap}
 use mir.Syntax.{w64}
 use mir.Val.{of_z}
 use borrow.Author.Tests.{eq-eqb, ne_eqb}
-use Rattle.theory.specs.Basics.{Bool, true, false, cond, [], ◌∷◌, ℕ, ◌=?◌, pos}
+use Rattle.theory.specs.Basics.{Bool, true, false, cond, [], ℕ, ◌=?◌, pos}
 use Rattle.theory.specs.Partition.{degree}
 use Rattle.theory.specs.ShapeWord.{shape_of, good_word}
 use Rattle.theory.proofs.ShapeWord.InFront.{dropped-shape}

@@ -17,8 +17,8 @@
 --   begun slip x              where a session stands when it was opened: no step counts, nothing was saved
 --   is_watch call              it is a watch, or a preview, which counts as one
 --   unwatched calls           the calls with these struck; commits are handed the same strips
-use Rattle.std.specs.Prelude.{◌≡◌}
-use Rattle.theory.specs.Basics.{Bool, true, false, not, cond, List, [], ◌∷◌, map, get_or, take, ℕ, ◌+◌, ◌=?◌, keep, same}
+use Rattle.std.specs.Prelude.{◌≡◌, ◌∷◌, ◌+◌}
+use Rattle.theory.specs.Basics.{Bool, true, false, not, cond, List, [], map, get_or, take, ℕ, ◌=?◌, keep, same}
 use Rattle.words.specs.declared.CountAnswer.{CountAnswer}
 use Rattle.words.specs.Answers.{Outcome}
 use Rattle.text.specs.Text.{Text}

@@ -1,6 +1,7 @@
 -- A cycle struck from a class word while the word is read: what has been read stays, what is left goes without it.
 --   Striking w cycle at rest   of the class word w, `at` digits have been read, none of their parts is the cycle, and
 --                              the number `rest` is left
+use Rattle.std.specs.Prelude.{◌+◌, ◌-◌, ◌*◌, ◌%◌, ◌^◌}
 use mathlib.Core.Path.{◌≡◌, refl, ◌∙◌}
 use Prim.Native.Nat.{◌<◌, ◌≤◌}
 use native.Mathlib.Nat.{mod-eq_of_lt}
@@ -8,7 +9,7 @@ use native.Mathlib.Omega.{arith}
 use borrow.Author.Tests.{eq-eqb, ne_eqb}
 use lib.Count.{count_leading_zeros}
 use lib.Pow.{pow_mono, shl_lt}
-use Rattle.theory.specs.Basics.{true, false, [], ℕ, ◌+◌, ◌-◌, ◌*◌, ◌%◌, ◌^◌}
+use Rattle.theory.specs.Basics.{true, false, [], ℕ}
 use Rattle.theory.specs.Partition.{Parts, times, without}
 use Rattle.theory.specs.Digits.{word}
 use Rattle.theory.proofs.Digits.Laws.{one_shifted, word_none, word_below}

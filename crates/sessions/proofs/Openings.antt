@@ -1,10 +1,11 @@
 -- From the tests of an opening to what it is promised to answer and to leave.
+use Rattle.std.specs.Prelude.{◌∷◌, ◌-◌}
 use mathlib.Core.Path.{◌≡◌, refl, sym, ◌∙◌, ap}
 use Prim.Native.Nat.{◌≤◌, ◌<◌}
 use native.Mathlib.Omega.{arith}
 use borrow.Author.Tests.{lt-ltb, le-ltb, eq-eqb, ne_eqb}
 use lib.ListN.{set}
-use Rattle.theory.specs.Basics.{false, List, [], ◌∷◌, length, replicate, ℕ, zero, suc, ◌-◌, pos}
+use Rattle.theory.specs.Basics.{false, List, [], length, replicate, ℕ, zero, suc, pos}
 use Rattle.theory.specs.Limits.{page_limit}
 use Rattle.theory.specs.Partition.{degree}
 use Rattle.theory.specs.ShapeWord.{shape_of, good_word}

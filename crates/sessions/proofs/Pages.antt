@@ -1,5 +1,6 @@
 -- What the loops over a page do to it. A line is taken out step by step: to move the next line down and to take that
 -- one out is to take this one out.
+use Rattle.std.specs.Prelude.{◌∷◌, ◌++◌, ◌+◌, ◌-◌}
 use mathlib.Core.Path.{◌≡◌, refl, sym, ◌∙◌, ap}
 use mathlib.Core.List.{append-nil}
 use Prim.Native.Nat.{◌≤◌, ◌<◌}
@@ -10,7 +11,7 @@ use borrow.Author.Tests.{eq-eqb, ne_eqb}
 use lib.ListN.{set, length-append, length-drop, length-replicate, drop_of_length-le}
 use lib.Seq.{take-take, take-set-lt, take-suc-set, drop-set-lt, drop-cons, append_snoc, get_or-take, set_split}
 use lib.Seq.{length-take-le, take_at, drop-append-add, sets, sets-eq}
-use Rattle.theory.specs.Basics.{Bool, true, false, List, [], ◌∷◌, ◌++◌, length, get_or, take, drop, replicate, ℕ, zero, suc, ◌+◌, ◌-◌}
+use Rattle.theory.specs.Basics.{Bool, true, false, List, [], length, get_or, take, drop, replicate, ℕ, zero, suc}
 use Rattle.theory.specs.Basics.{same, Each}
 use Rattle.sessions.specs.Private.Pages.{others, taken_out, Exchanges, exchanged}
 

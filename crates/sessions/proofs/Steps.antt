@@ -1,10 +1,11 @@
 -- From the tests of a line and a cycle that are named to the class that is left.
 --   Chosen .. r     what the class left r tells, if it does not refuse
+use Rattle.std.specs.Prelude.{◌∷◌}
 use mathlib.Core.Path.{◌≡◌, refl, sym, ◌∙◌, ap}
 use Prim.Native.Nat.{◌≤◌, ◌<◌}
 use native.Mathlib.Omega.{arith}
 use borrow.Author.Tests.{le-leb, lt-leb, not-false, not-true}
-use Rattle.theory.specs.Basics.{Bool, true, false, not, List, [], ◌∷◌, get_or, ℕ, ◌=?◌}
+use Rattle.theory.specs.Basics.{Bool, true, false, not, List, [], get_or, ℕ, ◌=?◌}
 use Rattle.theory.specs.Partition.{times, without}
 use Rattle.theory.specs.ClassWord.{class_word, class_of}
 use Rattle.theory.specs.Refusals.{Check, first_of, no-8, no_9}
@@ -19,7 +20,7 @@ use Rattle.pages.proofs.SoundPages.{line_word}
 use Rattle.sessions.specs.declared.lines.WithoutCycle.{WithoutCycle}
 use Rattle.sessions.specs.declared.ClassLeft.{ClassLeft}
 use Rattle.sessions.specs.Step.{named_checks}
-use Rattle.sessions.specs.Step.Laws.{NamedOn, named-on}
+use Rattle.sessions.proofs.Step.Laws.{NamedOn, named-on}
 use Rattle.sessions.specs.Private.ClassLeft.{class_left, class_left_of}
 use Rattle.sessions.specs.Private.Striking.{class_without}
 

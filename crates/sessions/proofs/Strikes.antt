@@ -1,6 +1,7 @@
 -- What comes of a line and a cycle that are named: the new lines have room on a strip, what is settled and counted has
 -- room in 64 bits, and strip and page are what is promised.
 --   Hooked .. h strip   what the strike h tells that left this strip, if it does not refuse
+use Rattle.std.specs.Prelude.{◌∷◌, ◌++◌, ◌+◌, ◌-◌, ◌^◌, ◌+ℤ◌}
 use mathlib.Core.Path.{◌≡◌, refl, sym, ◌∙◌, ap, ap₂}
 use mathlib.Core.List.{map-append}
 use Prim.Native.Nat.{◌≤◌, ◌<◌}
@@ -9,8 +10,8 @@ use native.Mathlib.Omega.{arith}
 use borrow.Author.Tests.{lt-ltb, le-ltb, ltb-false}
 use lib.ListN.{length-append, length-map}
 use lib.Seq.{take_at, length-take-le, sets, sets-eq}
-use Rattle.theory.specs.Basics.{Bool, not, List, [], ◌∷◌, ◌++◌, map, length, get_or, take, drop, ℕ, suc, ◌+◌}
-use Rattle.theory.specs.Basics.{◌-◌, ◌^◌, ℤ, pos, ◌+ℤ◌, nat_abs, ◌<?◌, sum, same}
+use Rattle.theory.specs.Basics.{Bool, not, List, [], map, length, get_or, take, drop, ℕ, suc}
+use Rattle.theory.specs.Basics.{ℤ, pos, nat_abs, ◌<?◌, sum, same}
 use Rattle.theory.specs.Partition.{without}
 use Rattle.theory.specs.ClassWord.{class_word, class_of}
 use Rattle.theory.specs.Bounds.{S}
@@ -39,9 +40,9 @@ use Rattle.sessions.specs.declared.Struck.{Struck}
 use Rattle.sessions.specs.Opening.{handed, Handed}
 use Rattle.sessions.specs.Step.{settled_hooks, waiting_hooks, next_lines_in, next_slip_in, preview_in, commit_in}
 use Rattle.sessions.specs.Step.{next_lines, next_slip, named_checks, new_lines, preview, commit_checks, commit}
-use Rattle.sessions.specs.Step.Named.{settled-room, next-length}
-use Rattle.sessions.specs.Step.Laws.{NamedOn, named-on}
-use Rattle.sessions.specs.Step.Previews.{few-new}
+use Rattle.sessions.proofs.Step.Named.{settled-room, next-length}
+use Rattle.sessions.proofs.Step.Laws.{NamedOn, named-on}
+use Rattle.sessions.proofs.Step.Previews.{few-new}
 use Rattle.sessions.specs.Private.ClassLeft.{class_left_of}
 use Rattle.sessions.specs.Private.Pages.{others, Exchanges, exchanged}
 use Rattle.sessions.specs.Private.Striking.{Strikes, stripped}

@@ -4,6 +4,7 @@
 --   Coming ..               the hook lines that are still to come and what has been done make the whole
 --   Stripping ..            the walk, with the marks `left` still to come
 --   NextHookLine ..         the next hook of it, by its stretch: the highest mark is at place 31 - z and counts `one`
+use Rattle.std.specs.Prelude.{◌∷◌, ◌+◌, ◌-◌, ◌*◌, ◌%◌, ◌^◌, ◌+ℤ◌}
 use mathlib.Core.Path.{◌≡◌, refl, sym, ◌∙◌, ap}
 use mathlib.Core.List.{map-map}
 use Prim.Native.Nat.{◌≤◌, ◌<◌}
@@ -15,8 +16,8 @@ use lib.ListN.{length-map, set}
 use borrow.Author.Tests.{eq-eqb, ne_eqb}
 use mir.Syntax.{w64}
 use mir.Val.{SFits}
-use Rattle.theory.specs.Basics.{Bool, true, false, not, List, [], ◌∷◌, map, length, ℕ, ◌+◌, ◌-◌, ◌*◌, ◌%◌, ◌^◌}
-use Rattle.theory.specs.Basics.{ℤ, pos, ◌+ℤ◌, nat_abs, keep, sum, signed, Each}
+use Rattle.theory.specs.Basics.{Bool, true, false, not, List, [], map, length, ℕ}
+use Rattle.theory.specs.Basics.{ℤ, pos, nat_abs, keep, sum, signed, Each}
 use Rattle.theory.proofs.Basics.Laws.{each_member, map_same}
 use Rattle.theory.proofs.Partition.Laws.{without-degree}
 use Rattle.theory.specs.Digits.{bit, width}
@@ -39,7 +40,7 @@ use Rattle.pages.specs.Page.{line_of, word_of}
 use Rattle.pages.specs.Page.{plain}
 use Rattle.pages.proofs.Signed.{carried, carried-is, room}
 use Rattle.sessions.specs.Step.{empty, settled_hooks, waiting_hooks}
-use Rattle.sessions.specs.Step.Strike.{cycle-positive}
+use Rattle.sessions.proofs.Step.Strike.{cycle-positive}
 use Rattle.sessions.specs.Private.Striking.{multiplied, Strikes, hook_count, stripped}
 
 abbrev waits : Line → Bool

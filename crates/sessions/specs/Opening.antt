@@ -4,7 +4,8 @@
 --   first_lines s c     one line of weight 1, none at degree 0; first_settled s, 1 at degree 0, else 0
 --   opening_in m ..     what an opening answers in the mode m, by opening_checks_in, and what it leaves of what is lent
 --   opening ..         the same in the plain mode, and the page that it leaves; opening_checks
-use Rattle.theory.specs.Basics.{cond, List, [], ◌∷◌, ◌++◌, length, ℕ, ℤ, pos, ◌=?◌}
+use Rattle.std.specs.Prelude.{◌∷◌, ◌++◌}
+use Rattle.theory.specs.Basics.{cond, List, [], length, ℕ, ℤ, pos, ◌=?◌}
 use Rattle.theory.specs.Partition.{degree}
 use Rattle.theory.specs.ShapeWord.{shape_of, good_word}
 use Rattle.theory.specs.Refusals.{Check, first_of, refused_or, pair_checks, no-10}

@@ -10,7 +10,8 @@
 --   commit_checks_in ..        the checks of a commit, by the strip that it is handed
 --   finished_in m k ..        refused with the number k, or for 0 the slip after the step, and what is lent after it
 --   commit_in ..              what a commit answers, and what it leaves of what is lent
-use Rattle.theory.specs.Basics.{Bool, not, List, [], ◌∷◌, ◌++◌, map, length, take, drop, ℕ, suc, pos, ◌+ℤ◌, ◌=?◌, keep}
+use Rattle.std.specs.Prelude.{◌∷◌, ◌++◌, ◌+ℤ◌}
+use Rattle.theory.specs.Basics.{Bool, not, List, [], map, length, take, drop, ℕ, suc, pos, ◌=?◌, keep}
 use Rattle.theory.specs.Basics.{sum}
 use Rattle.theory.specs.ClassWord.{class_of}
 use Rattle.theory.specs.Refusals.{Check, first_of, refused_or, no-8, no_9, no-10, no-18, no-19}
@@ -22,11 +23,6 @@ use Rattle.pages.specs.Page.{word_of, line_at, slip_of}
 use Rattle.pages.specs.Mode.{Mode, waiting_in, plain_mode}
 use Rattle.pages.specs.Sound.{page_checks_in}
 use Rattle.sessions.specs.Opening.{handed, Handed}
-pub mod Strike
-pub mod Named
-pub mod Laws
-pub mod Previews
-pub mod Gathered
 
 abbrev pub empty : Line → Bool
 empty l = l.shape =? 0

@@ -3,8 +3,8 @@
 
 #![tactic(auto)]
 
-ghost use Rattle.std.specs.Prelude.{◌≡◌, ◌+◌, ◌<◌, ◌^◌, pos, ◌+ℤ◌, nat_abs};
-ghost use Rattle.theory.specs.Basics.{not, [], ◌∷◌, length};
+ghost use Rattle.std.specs.Prelude.{◌≡◌, ◌+◌, ◌<◌, ◌^◌, pos, ◌+ℤ◌, nat_abs, ◌∷◌};
+ghost use Rattle.theory.specs.Basics.{not, [], length};
 ghost use Rattle.theory.specs.Refusals.{first_of};
 ghost use Rattle.theory.specs.Limits.{degree_limit};
 ghost use Rattle.words.specs.Answers.{Outcome};

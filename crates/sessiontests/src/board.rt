@@ -1,5 +1,7 @@
 // A board of counts, seven rows of 32: in each but the last, calls by the number that refused them (0: accepted), and
 // in the last, calls by what was wrong with them (0: nothing).
+use std::io;
+
 pub const SIZE: usize = 224;
 
 pub const WRONG: usize = 6;
@@ -20,13 +22,19 @@ pub fn enter(board: &mut [u64; SIZE], row: usize, refused: u8, wrong: usize) {
 }
 
 // The first numbers of a row, after a name.
-pub fn print(name: &[u8], board: &[u64; SIZE], row: usize, numbers: usize) {
-    io::write_all(1, name);
+pub fn print(
+    rt: &impl Print,
+    name: &[u8],
+    board: &[u64; SIZE],
+    row: usize,
+    numbers: usize,
+) -> io::Result<()> {
+    rt.write_all(name)?;
     let mut k = 0;
     while k < numbers {
-        io::write_all(1, b" ");
-        io::print_decimal(1, board[(row % 7) * 32 + k % 32]);
+        let number = board[(row % 7) * 32 + k % 32];
+        print!(rt; " {number}")?;
         k += 1;
     }
-    io::write_all(1, b"\n");
+    println!(rt)
 }

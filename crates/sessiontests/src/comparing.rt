@@ -1,6 +1,6 @@
 // What is compared after a call: pages, slips, and what the watches show.
 use super::drawing::{PAGE, Strike};
-use super::hooks::New;
+use super::striking::New;
 use characters::Watched;
 use pages::Slip;
 use testing::numbers;

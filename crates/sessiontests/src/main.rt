@@ -14,22 +14,23 @@ mod changes;
 mod comparing;
 mod drawing;
 mod examples;
-mod hooks;
 mod loads;
 mod parts;
 mod refused;
 mod runs;
 mod saves;
 mod steps;
+mod striking;
 mod strips;
 mod texts;
 
 use board::{REFUSALS, WRONG};
+use std::io;
 use testing::{Tally, print};
 
 // Texts with one byte changed, dropped or doubled, and cut short: how many were accepted, and how many each number from
 // 1 to 19 refused; and how many of these answers were right, how many wrong.
-fn print_changes() {
+fn print_changes(rt: &impl Print) -> io::Result<()> {
     let mut board = [0u64; board::SIZE];
     changes::all(
         b"degree=5\nshape=3,2\nclass=3,2\nsteps=1\nsettled=0\nlines=1\nline=-;1,1;2\n",
@@ -42,58 +43,65 @@ fn print_changes() {
         &mut board,
     );
     board::print(
+        rt,
         b"texts with a byte changed, 0 for accepted:",
         &board,
         changes::CHANGED,
         REFUSALS,
-    );
+    )?;
     board::print(
+        rt,
         b"texts with a byte dropped:",
         &board,
         changes::DROPPED,
         REFUSALS,
-    );
+    )?;
     board::print(
+        rt,
         b"texts with a byte doubled:",
         &board,
         changes::DOUBLED,
         REFUSALS,
-    );
-    board::print(b"texts cut short:", &board, changes::CUT, REFUSALS);
-    board::print(b"right and wrong:", &board, WRONG, 2);
+    )?;
+    board::print(rt, b"texts cut short:", &board, changes::CUT, REFUSALS)?;
+    board::print(rt, b"right and wrong:", &board, WRONG, 2)
 }
 
 // Lines of openings, previews, commits, saves and loads: how many were accepted, and how many each number from 1 to 19
 // refused. A line of calls by what was wrong: how many had nothing wrong, then 1 for the twin, 2 for a refused call, 4
 // for an accepted one, 8 for the sum, 16 for the refusal number, the number of lines or the line at fault, added up.
-fn print_run() {
+fn print_run(rt: &impl Print) -> io::Result<()> {
     let board = runs::all();
     board::print(
+        rt,
         b"openings, 0 for accepted:",
         &board,
         runs::OPENINGS,
         REFUSALS,
-    );
-    board::print(b"previews:", &board, runs::PREVIEWS, REFUSALS);
-    board::print(b"commits:", &board, runs::COMMITS, REFUSALS);
-    board::print(b"saves:", &board, runs::SAVES, REFUSALS);
-    board::print(b"loads:", &board, runs::LOADS, REFUSALS);
+    )?;
+    board::print(rt, b"previews:", &board, runs::PREVIEWS, REFUSALS)?;
+    board::print(rt, b"commits:", &board, runs::COMMITS, REFUSALS)?;
+    board::print(rt, b"saves:", &board, runs::SAVES, REFUSALS)?;
+    board::print(rt, b"loads:", &board, runs::LOADS, REFUSALS)?;
     board::print(
+        rt,
         b"loads on pages of 0 to 24 words:",
         &board,
         runs::ELSEWHERE,
         REFUSALS,
-    );
+    )?;
     board::print(
+        rt,
         b"calls by what was wrong, 0 for nothing:",
         &board,
         WRONG,
         32,
-    );
+    )
 }
 
-fn main() {
+fn main(rt: HostRuntime) -> io::Result<()> {
     print(
+        &rt,
         b"document 01",
         Tally::new()
             .add(examples::no_word())
@@ -103,22 +111,24 @@ fn main() {
             .add(examples::both(2, 0x3800_0000_1000_0000, 3))
             .add(examples::no_hook())
             .add(examples::too_long_to_strike()),
-    );
+    )?;
     print(
+        &rt,
         b"ones in front",
         Tally::new()
             .add(examples::opened_in_front())
             .add(examples::kept_in_front()),
-    );
+    )?;
     print(
+        &rt,
         b"put away and taken up again",
         Tally::new()
             .add(examples::put_away(
                 b"degree=5\nshape=3,2\nclass=3,2\nsteps=1\nsettled=0\nlines=1\nline=-;1,1;2\n",
             ))
             .add(examples::too_long()),
-    );
-    print(b"texts refused at their lines", refused::all());
-    print_changes();
-    print_run();
+    )?;
+    print(&rt, b"texts refused at their lines", refused::all())?;
+    print_changes(&rt)?;
+    print_run(&rt)
 }

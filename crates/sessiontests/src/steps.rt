@@ -3,8 +3,8 @@
 use super::calls::{Found, counted, same_handed};
 use super::comparing::{conserved, same, same_shown, same_slip, stepped, watches};
 use super::drawing::{PAGE, Strike};
-use super::hooks::New;
 use super::parts::{commit_with, lesser, preview_on};
+use super::striking::New;
 use super::strips::{STRIP, holds};
 use pages::Slip;
 

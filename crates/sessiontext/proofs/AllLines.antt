@@ -1,6 +1,7 @@
 -- Loops over the waiting lines of a text: what is left of the text has the lines that are left.
 --   Judged ..   the lines in front of `at` are of their form, and what they leave of the budget
 --   Put ..      the lines in front of `at` are on the page
+use Rattle.std.specs.Prelude.{◌∷◌, ◌+◌, ◌-◌}
 use mathlib.Core.Path.{◌≡◌, refl, sym, ◌∙◌, ap}
 use Prim.Native.Nat.{◌≤◌, ◌<◌}
 use native.Mathlib.Nat.{add-zero, add_comm}
@@ -8,13 +9,13 @@ use native.Mathlib.Numerals.{add-one}
 use native.Mathlib.Omega.{arith}
 use lib.ListN.{set, length-set, drop_of_length-le}
 use lib.Seq.{sets}
-use Rattle.theory.specs.Basics.{true, false, List, [], ◌∷◌, map, ℕ, ◌+◌, ◌-◌, length, take, drop, Each}
+use Rattle.theory.specs.Basics.{true, false, List, [], map, ℕ, length, take, drop, Each}
 use Rattle.theory.specs.Digits.{width}
 use Rattle.theory.specs.Limits.{degree_limit}
 use Rattle.theory.specs.Refusals.{first_of}
 use Rattle.text.specs.Text.{Text}
 use Rattle.textreading.specs.Reading.{lines_of, first_line}
-use Rattle.textreading.specs.Reading.Lines.{Next, next}
+use Rattle.textreading.proofs.Reading.Lines.{Next, next}
 use Rattle.pages.specs.declared.Budget.{Budget}
 use Rattle.pages.specs.Line.{Line}
 use Rattle.pages.specs.Page.{line_of, word_of}

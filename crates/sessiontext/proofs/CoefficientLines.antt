@@ -1,6 +1,7 @@
 -- Waiting lines with coefficients that are read off a text: one line, told by comparing, and loops over them.
 --   Faultless ..   the lines in front of `at` are of their form
 --   Down ..        the lines in front of `at` are put down
+use Rattle.std.specs.Prelude.{◌&&◌, ◌∷◌, ◌+◌, ◌-◌, ◌*◌, ◌/◌, ◌%◌, ◌^◌}
 use mathlib.Core.Path.{◌≡◌, refl, sym, ◌∙◌, ap, ap₂, subst}
 use mathlib.Core.Bool.{false≢true}
 use Prim.Native.Nat.{◌≤◌, ◌<◌}
@@ -9,7 +10,7 @@ use native.Mathlib.Numerals.{add-one}
 use native.Mathlib.Omega.{arith}
 use lib.ListN.{set, length-set, drop_of_length-le}
 use lib.Seq.{sets}
-use Rattle.theory.specs.Basics.{Bool, true, false, ◌&&◌, List, ◌∷◌, ℕ, ◌+◌, ◌-◌, ◌*◌, ◌/◌, ◌%◌, ◌^◌, ℤ, length}
+use Rattle.theory.specs.Basics.{Bool, true, false, List, ℕ, ℤ, length}
 use Rattle.theory.specs.Basics.{take, drop, Each}
 use Rattle.theory.proofs.Basics.Keep.{same_test}
 use Rattle.theory.proofs.Basics.Laws.{both}
@@ -21,7 +22,7 @@ use Rattle.theory.specs.Refusals.{first_of}
 use Rattle.text.specs.Text.{Text}
 use Rattle.textreading.specs.Reading.{before, lines_of, first_line}
 use Rattle.textreading.specs.Reading.Bytes.{before-take, before-fits}
-use Rattle.textreading.specs.Reading.Lines.{Next, next}
+use Rattle.textreading.proofs.Reading.Lines.{Next, next}
 use Rattle.pages.specs.Line.{Line}
 use Rattle.pages.specs.Page.{word_of, plain}
 use Rattle.pages.specs.Mode.{weighted, unit, words_of, weights_of}

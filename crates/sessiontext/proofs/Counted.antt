@@ -1,5 +1,6 @@
 -- How long a list of parts is: only its first part can have two digits. What a word tells of its parts' number and the
 -- first of them.
+use Rattle.std.specs.Prelude.{◌∷◌, ◌++◌, ◌+◌, ◌-◌, ◌*◌, ◌^◌}
 use mathlib.Core.Path.{◌≡◌, refl, sym, ◌∙◌, ap, ap₂}
 use Prim.Native.Nat.{◌≤◌, ◌<◌}
 use native.Mathlib.Decide.{dec_le}
@@ -8,7 +9,7 @@ use native.Mathlib.Omega.{arith}
 use lib.Count
 use lib.ListN.{length-append}
 use borrow.Author.Tests.{lt-ltb, le-ltb}
-use Rattle.theory.specs.Basics.{true, false, [], ◌∷◌, ◌++◌, map, ℕ, suc, ◌+◌, ◌-◌, ◌*◌, ◌^◌, length, joined}
+use Rattle.theory.specs.Basics.{true, false, [], map, ℕ, suc, length, joined}
 use Rattle.theory.specs.Partition.{Parts, is_partition, first}
 use Rattle.theory.proofs.Partition.Laws.{front, first-degree, length-degree}
 use Rattle.theory.specs.Digits.{Digits, digits, ones, width}

@@ -1,14 +1,15 @@
 -- The first seven lines of a gathered session's text: the mode's, and six that are read as those of a plain session.
 --   raised checks      the checks, each with the next number
 --   heads_from n body   the checks of the six lines of a body, with n lines in front of it; slip_from, the slip
+use Rattle.std.specs.Prelude.{◌&&◌, ◌∷◌, ◌+◌, ◌-◌, ◌^◌}
 use mathlib.Core.Path.{◌≡◌, refl, sym, ◌∙◌, ap}
 use Prim.Native.Nat.{◌≤◌, ◌<◌}
 use native.Mathlib.Omega.{arith}
 use lib.ListN.{length-drop}
 use lib.Seq.{drop-drop, take_all}
-use Rattle.theory.specs.Basics.{Bool, true, false, not, ◌&&◌, cond, List, [], ◌∷◌, ℕ, suc, ◌+◌, ◌-◌, ◌^◌, pos, ◌=?◌}
+use Rattle.theory.specs.Basics.{Bool, true, false, not, cond, List, [], ℕ, suc, pos, ◌=?◌}
 use Rattle.theory.specs.Basics.{length}
-use Rattle.theory.specs.Basics.{get_or, take, drop, same, every, ◌<?◌, Each}
+use Rattle.theory.specs.Basics.{get_or, take, drop, same, Each}
 use Rattle.theory.proofs.Basics.Keep.{same_test}
 use Rattle.theory.proofs.Basics.Laws.{same_lists}
 use Rattle.theory.specs.Partition.{degree}
@@ -20,7 +21,7 @@ use Rattle.theory.specs.Refusals.Laws.{Numbered}
 use Rattle.theory.proofs.Refusals.Laws.{none-applies, first_below}
 use Rattle.text.specs.Text.{Text, ascii, decimal, field}
 use Rattle.textreading.specs.Reading.{number_in, integer_in, list_in, lines_of, first_line}
-use Rattle.textreading.specs.Reading.Lines.{Next, next}
+use Rattle.textreading.proofs.Reading.Lines.{Next, next}
 use Rattle.pages.specs.declared.Slip.{Slip}
 use Rattle.pages.specs.Page.{slip_of}
 use Rattle.sessiontext.specs.declared.reading.HeadRead.{HeadRead}

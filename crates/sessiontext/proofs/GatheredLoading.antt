@@ -1,13 +1,14 @@
 -- Lines with coefficients that are put down: exactly they are judged, and zeros go behind them.
+use Rattle.std.specs.Prelude.{◌&&◌, ◌∷◌, ◌++◌, ◌-◌}
 use mathlib.Core.Path.{◌≡◌, refl, sym, ◌∙◌, ap, ap₂}
 use mathlib.Core.List.{append-nil}
 use Prim.Native.Nat.{◌≤◌, ◌<◌}
 use native.Mathlib.Omega.{arith}
 use lib.ListN.{length-map}
-use lib.Seq.{sets, length-sets}
+use lib.Seq.{length-sets}
 use borrow.Author.Tests.{eq-eqb, le-leb}
-use Rattle.theory.specs.Basics.{Bool, true, false, ◌&&◌, List, [], ◌∷◌, ◌++◌, map, length, take, replicate}
-use Rattle.theory.specs.Basics.{ℕ, ◌-◌, ℤ, pos, ◌=?◌, Each}
+use Rattle.theory.specs.Basics.{Bool, true, false, List, [], map, length, take, replicate}
+use Rattle.theory.specs.Basics.{ℕ, ℤ, pos, ◌=?◌, Each}
 use Rattle.theory.proofs.Basics.Laws.{each_map}
 use Rattle.theory.specs.Digits.{width}
 use Rattle.theory.specs.Limits.{degree_limit, page_limit}
@@ -16,7 +17,7 @@ use Rattle.theory.proofs.Refusals.Laws.{first_passes}
 use Rattle.text.specs.Text.{Text}
 use Rattle.pages.specs.declared.Slip.{Slip}
 use Rattle.pages.specs.Line.{Line}
-use Rattle.pages.specs.Page.{word_of, padded}
+use Rattle.pages.specs.Page.{word_of}
 use Rattle.pages.specs.Mode.{unit, words_of, weights_of, gathered_mode, waiting_in}
 use Rattle.pages.specs.Sound.{sound_with, sound_in, page_checks_in}
 use Rattle.pages.specs.Lawful.Gathered.{Roomy, gathered-lawful, lent-passes, read-put, zeros-put}
@@ -26,7 +27,7 @@ use Rattle.sessiontext.specs.Reading.{line_by}
 use Rattle.sessiontext.specs.Reading.Forms.{WaitingBy}
 use Rattle.sessiontext.specs.Reading.Exact.{line-written}
 use Rattle.sessiontext.specs.Private.Weighted.{read_as, PutDown}
-use Rattle.sessiontext.proofs.Loading.{put_front, put-cleared}
+use Rattle.sessiontext.proofs.Loading.{put_front}
 
 small : degree_limit < width
 small = omega arith

@@ -1,5 +1,6 @@
 -- The first six lines of a text: where they start and end, and what the readers of each tell together.
 --   Six text a b c d e f   the six lines end at these places
+use Rattle.std.specs.Prelude.{◌&&◌, ◌∷◌, ◌+◌, ◌-◌}
 use mathlib.Core.Path.{◌≡◌, refl, sym, ◌∙◌, ap}
 use Prim.Native.Nat.{◌≤◌, ◌<◌}
 use native.Mathlib.Decide.{dec_le}
@@ -8,7 +9,7 @@ use native.Mathlib.Omega.{arith}
 use lib.ListN.{length-drop, drop_of_length-le}
 use lib.Seq.{drop-drop, get_or-drop, take_all}
 use borrow.Author.Tests.{not-false}
-use Rattle.theory.specs.Basics.{Bool, true, false, not, ◌&&◌, List, [], ◌∷◌, ℕ, ◌+◌, ◌-◌, length, get_or, take, drop}
+use Rattle.theory.specs.Basics.{Bool, true, false, not, List, [], ℕ, length, get_or, take, drop}
 use Rattle.theory.specs.Basics.{◌=?◌, same, Each}
 use Rattle.theory.proofs.Basics.Laws.{same_lists}
 use Rattle.theory.specs.Partition.{degree}
@@ -17,7 +18,7 @@ use Rattle.theory.specs.Refusals.{Check, first_of}
 use Rattle.theory.proofs.Refusals.Laws.{none-applies}
 use Rattle.text.specs.Text.{Text, ascii, decimal, field}
 use Rattle.textreading.specs.Reading.{number_in, list_in, lines_of, first_line}
-use Rattle.textreading.specs.Reading.Lines.{Next}
+use Rattle.textreading.proofs.Reading.Lines.{Next}
 use Rattle.pages.specs.Page.{slip_of}
 use Rattle.sessiontext.specs.declared.numbers.NumberRead.{NumberRead}
 use Rattle.sessiontext.specs.declared.numbers.IntegerRead.{IntegerRead}

@@ -1,11 +1,12 @@
 -- A partition that is read off a text: what a column of 16 bytes has of its numbers is enough to judge it.
+use Rattle.std.specs.Prelude.{◌∷◌}
 use mathlib.Core.Path.{◌≡◌, refl, sym, ◌∙◌, ap}
 use mathlib.Core.Bool.{false≢true}
 use Prim.Native.Nat.{◌≤◌, ◌<◌}
 use native.Mathlib.Omega.{arith}
 use lib.ListN.{length-map}
 use borrow.Author.Tests.{ltb-false, le-ltb, not-false}
-use Rattle.theory.specs.Basics.{true, false, List, [], ◌∷◌, map, ℕ, length, take, ◌<?◌}
+use Rattle.theory.specs.Basics.{true, false, List, [], map, ℕ, length, take, ◌<?◌}
 use Rattle.theory.proofs.Basics.Keep.{same_test}
 use Rattle.theory.specs.Partition.{Parts, is_partition, degree}
 use Rattle.theory.proofs.Partition.Laws.{length-degree}

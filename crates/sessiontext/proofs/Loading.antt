@@ -1,16 +1,16 @@
 -- From the tests of a load to what it is promised to answer and to leave, by any form that is faithful.
 --   first_lines f text   the checks of the lines in front of those that wait
+use Rattle.std.specs.Prelude.{◌∷◌, ◌++◌, ◌+◌, ◌-◌}
 use mathlib.Core.Path.{◌≡◌, refl, sym, ◌∙◌, ap}
 use Prim.Native.Nat.{◌≤◌, ◌<◌}
 use native.Mathlib.Nat.{zero-add}
 use native.Mathlib.Omega.{arith}
-use mathlib.Core.List.{append_assoc, append-nil}
-use native.Mathlib.Numerals.{add-one}
-use lib.ListN.{set, length-set, length-map}
-use lib.Seq.{sets, sets-eq, length-sets, take_all, take-append_seam}
+use mathlib.Core.List.{append_assoc}
+use lib.ListN.{length-map}
+use lib.Seq.{sets, sets-eq, length-sets, take-append_seam}
 use borrow.Author.Tests.{lt-ltb, le-ltb, ne_eqb}
-use Rattle.theory.specs.Basics.{Bool, true, false, cond, List, [], ◌∷◌, ◌++◌, map, length, take, replicate}
-use Rattle.theory.specs.Basics.{ℕ, zero, suc, ◌+◌, ◌-◌, ◌=?◌}
+use Rattle.theory.specs.Basics.{Bool, true, false, cond, List, [], map, length, take, replicate}
+use Rattle.theory.specs.Basics.{ℕ, ◌=?◌}
 use Rattle.theory.specs.Limits.{degree_limit}
 use Rattle.theory.specs.Refusals.{Check, first_of, no-7, no-10, no-16}
 use Rattle.theory.specs.Refusals.Laws.{Numbered}

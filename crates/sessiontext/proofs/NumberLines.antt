@@ -1,5 +1,6 @@
 -- A number that is read off a line, written out and compared with it: it can be no other number's line.
 --   Compared b t u   b says whether the texts t and u are the same
+use Rattle.std.specs.Prelude.{◌^◌}
 use mathlib.Core.Path.{◌≡◌, sym, ◌∙◌, ap}
 use mathlib.Core.Bool.{false≢true}
 use Prim.Native.Nat.{◌≤◌, ◌<◌, min}
@@ -7,7 +8,7 @@ use mir.Facts.{to_z_pos}
 use mir.Syntax.{w64}
 use mir.Val.{to_z}
 use native.Mathlib.Omega.{arith}
-use Rattle.theory.specs.Basics.{Bool, true, false, ℕ, ◌^◌, pos, length}
+use Rattle.theory.specs.Basics.{Bool, true, false, ℕ, pos, length}
 use Rattle.theory.proofs.Basics.Keep.{same_test}
 use Rattle.text.specs.Text.{Text, ascii, decimal, text_line}
 use Rattle.text.specs.Wrote.{most}

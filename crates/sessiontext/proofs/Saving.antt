@@ -1,9 +1,10 @@
 -- From the tests of a save to what it is promised to answer and to leave, by any form that is faithful.
+use Rattle.std.specs.Prelude.{◌∷◌, ◌++◌}
 use mathlib.Core.Path.{◌≡◌, refl, sym, ◌∙◌, ap}
 use Prim.Native.Nat.{◌≤◌, ◌<◌}
 use native.Mathlib.Omega.{arith}
 use borrow.Author.Tests.{lt-ltb, le-ltb}
-use Rattle.theory.specs.Basics.{List, [], ◌∷◌, ◌++◌, length, ℕ}
+use Rattle.theory.specs.Basics.{List, [], length, ℕ}
 use Rattle.theory.specs.Limits.{degree_limit}
 use Rattle.theory.specs.Refusals.{Check, first_of, no-17}
 use Rattle.theory.proofs.Refusals.Laws.{first-refuses, first_passes, or-refused}

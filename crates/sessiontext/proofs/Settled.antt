@@ -1,4 +1,5 @@
 -- A signed number that is read off a line, written out and compared with it.
+use Rattle.std.specs.Prelude.{◌+◌, ◌-◌, ◌^◌}
 use mathlib.Core.Path.{◌≡◌, refl, sym, ◌∙◌, ap}
 use mathlib.Core.Bool.{false≢true}
 use Prim.Native.Nat.{◌≤◌, ◌<◌, min}
@@ -9,7 +10,7 @@ use borrow.Author.Tests.{lt-ltb, le-ltb, ltb-true}
 use mir.Facts.{to_z_pos, to_z-neg}
 use mir.Syntax.{w64}
 use mir.Val.{to_z}
-use Rattle.theory.specs.Basics.{Bool, true, false, cond, ℕ, zero, suc, ◌+◌, ◌-◌, ◌^◌, ℤ, pos, neg_ℤ}
+use Rattle.theory.specs.Basics.{Bool, true, false, cond, ℕ, zero, suc, ℤ, pos, neg_ℤ}
 use Rattle.theory.specs.Basics.{length, drop, ◌<?◌}
 use Rattle.theory.proofs.Basics.Keep.{same_test}
 use Rattle.text.specs.Text.{Text, ascii, integer, field}

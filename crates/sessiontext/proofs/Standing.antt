@@ -1,4 +1,5 @@
 -- Texts that stand in a text, one after the other, as they are read straight on.
+use Rattle.std.specs.Prelude.{◌∷◌, ◌++◌, ◌+◌, ◌-◌, ◌/◌, ◌%◌, ◌^◌}
 use mathlib.Core.Path.{◌≡◌, refl, sym, ◌∙◌, ap}
 use mathlib.Core.List.{append_assoc, append-nil}
 use mathlib.Core.Bool.{false≢true}
@@ -9,8 +10,8 @@ use native.Mathlib.Numerals.{add-one}
 use native.Mathlib.Omega.{arith}
 use lib.ListN.{get_or-eq_default, set, length-set, length-append, length-drop, take-append-drop}
 use lib.Seq.{drop-cons, drop-drop, take-suc-set}
-use Rattle.theory.specs.Basics.{Bool, true, false, ◌<?◌, List, [], ◌∷◌, ◌++◌, map, length, get_or, take, drop, joined}
-use Rattle.theory.specs.Basics.{ℕ, ◌+◌, ◌-◌, ◌/◌, ◌%◌, ◌^◌, ℤ, pos, signed}
+use Rattle.theory.specs.Basics.{Bool, true, false, ◌<?◌, List, [], map, length, get_or, take, drop, joined}
+use Rattle.theory.specs.Basics.{ℕ, ℤ, pos, signed}
 use Rattle.theory.proofs.Bounds.Laws.{abs-signed}
 use Rattle.theory.specs.Partition.{Parts}
 use Rattle.theory.specs.Digits.{width}
@@ -23,7 +24,7 @@ use Rattle.words.specs.Private.Reading.{list_checks}
 use Rattle.text.specs.Text.{Text, ascii, decimal, commas, list_text}
 use Rattle.text.specs.Text.Decimals.{one-digit, two_digits}
 use Rattle.textreading.specs.Reading.{first_line}
-use Rattle.textreading.specs.Reading.Lines.{Line, line_first}
+use Rattle.textreading.proofs.Reading.Lines.{Line, line_first}
 use Rattle.pages.specs.Page.{word_of, plain}
 use Rattle.sessiontext.specs.declared.straight.ListAt.{ListAt}
 use Rattle.sessiontext.specs.declared.straight.WordAt.{WordAt}

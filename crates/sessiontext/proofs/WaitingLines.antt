@@ -1,5 +1,6 @@
 -- A waiting line that is read off a line of text: where its semicolons cut it, and what is told by comparing.
 --   Cuts t first start second last   the places at which the sign's, the shape's and the class's text start and end
+use Rattle.std.specs.Prelude.{◌&&◌, ◌∷◌, ◌+◌, ◌-◌, ◌%◌, ◌^◌}
 use mathlib.Core.Path.{◌≡◌, refl, sym, ◌∙◌, ap, subst}
 use mathlib.Core.Bool.{false≢true}
 use Prim.Native.Nat.{◌≤◌, ◌<◌, min}
@@ -8,7 +9,7 @@ use native.Mathlib.Nat.{lt_of_not-le}
 use native.Mathlib.Omega.{arith}
 use lib.ListN.{length-drop}
 use lib.Seq.{drop-drop, drop-length, take_all, length-take-le}
-use Rattle.theory.specs.Basics.{Bool, true, false, ◌&&◌, cond, List, [], ◌∷◌, ℕ, suc, ◌+◌, ◌-◌, ◌%◌, ◌^◌, length, take}
+use Rattle.theory.specs.Basics.{Bool, true, false, cond, List, [], ℕ, suc, length, take}
 use Rattle.theory.specs.Basics.{drop, ◌=?◌}
 use Rattle.theory.specs.Basics.{◌<?◌}
 use Rattle.theory.proofs.Basics.Keep.{same_test}

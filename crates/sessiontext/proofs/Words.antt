@@ -1,4 +1,5 @@
 -- From what the calls on a word within the limit answer to its parts and its degree.
+use Rattle.std.specs.Prelude.{◌^◌}
 use mathlib.Core.Path.{◌≡◌, refl, ◌∙◌, ap}
 use Prim.Native.Nat.{◌≤◌}
 use native.Mathlib.Omega.{arith}
@@ -7,7 +8,7 @@ use mir.Syntax.{w64}
 use mir.Val.{SFits, to_z, of_z}
 use borrow.Author.Rules.{sfits_of}
 use borrow.Author.Tests.{ltb-true}
-use Rattle.theory.specs.Basics.{true, List, ℕ, ◌^◌, ℤ, pos, negsuc, length, replicate}
+use Rattle.theory.specs.Basics.{true, List, ℕ, ℤ, pos, negsuc, length, replicate}
 use Rattle.theory.specs.Partition.{degree}
 use Rattle.theory.proofs.Partition.Laws.{length-degree}
 use Rattle.theory.specs.Digits.{digits, width}

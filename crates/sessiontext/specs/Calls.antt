@@ -4,7 +4,8 @@
 --   save_by f ..          the text of a session at the front of lent bytes, the rest stays, and its length; save_into
 --   load_checks_by f ..    the checks of a load, in their order; load_checks
 --   load_by f ..          the slip that a text is read as, its lines on what is lent and zeros after them; load_into
-use Rattle.theory.specs.Basics.{cond, List, [], ◌∷◌, ◌++◌, ℕ, ◌=?◌}
+use Rattle.std.specs.Prelude.{◌∷◌, ◌++◌}
+use Rattle.theory.specs.Basics.{cond, List, [], ℕ, ◌=?◌}
 use Rattle.theory.specs.Refusals.{Check, first_of, refused_or, no-7, no-10, no-16, no-17}
 use Rattle.words.specs.declared.CountAnswer.{CountAnswer}
 use Rattle.words.specs.Answers.{written}

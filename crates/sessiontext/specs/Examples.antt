@@ -1,7 +1,7 @@
 -- The text of P1's issue, written and read (E11 of document 01 after its first strike), and texts that are refused; the
 -- same for a text of the gathered form.
-use Rattle.std.specs.Prelude.{◌≡◌, refl}
-use Rattle.theory.specs.Basics.{true, [], ◌∷◌, ◌++◌, ℕ, pos, negsuc}
+use Rattle.std.specs.Prelude.{◌≡◌, refl, ◌∷◌, ◌++◌}
+use Rattle.theory.specs.Basics.{true, [], ℕ, pos, negsuc}
 use Rattle.theory.specs.Digits.{digits, word}
 use Rattle.theory.specs.ShapeWord.{shape_word}
 use Rattle.theory.specs.ClassWord.{class_word}

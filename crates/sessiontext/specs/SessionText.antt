@@ -11,8 +11,9 @@
 --   line_text_by f l                the line of text for the waiting line l, by the form f; line_text, by the plain one
 --   session_lines_by f slip lines   the lines of text for a slip and its waiting lines; session_text_by, one after the
 --                                 other; session_lines, session_text, by the plain form
+use Rattle.std.specs.Prelude.{◌∷◌, ◌++◌, ◌^◌}
 use Rattle.std.specs.Int.Signed.{non_neg}
-use Rattle.theory.specs.Basics.{Bool, true, not, cond, List, [], ◌∷◌, ◌++◌, map, length, ◌^◌, ℤ, pos, negsuc, nat_abs}
+use Rattle.theory.specs.Basics.{Bool, true, not, cond, List, [], map, length, ℤ, pos, negsuc, nat_abs}
 use Rattle.theory.specs.Basics.{◌<?◌, signed, joined}
 use Rattle.theory.specs.Partition.{Parts, degree}
 use Rattle.theory.specs.ShapeWord.{shape_of}

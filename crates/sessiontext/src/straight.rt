@@ -1,7 +1,7 @@
 // Waiting lines as a save writes them, read straight on: each byte is looked at once. A line that is not read here may
 // still be of its form, as one with the empty shape is; whoever asks reads such a line the longer way.
-ghost use Rattle.std.specs.Prelude.{◌≡◌, ◌+◌, ◌≤◌, ◌<◌};
-ghost use Rattle.theory.specs.Basics.{true, false, ◌++◌, length, get_or};
+ghost use Rattle.std.specs.Prelude.{◌≡◌, ◌+◌, ◌≤◌, ◌<◌, ◌++◌};
+ghost use Rattle.theory.specs.Basics.{true, false, length, get_or};
 ghost use Rattle.theory.specs.ShapeWord.{shape_word};
 ghost use Rattle.theory.specs.ClassWord.{class_word};
 ghost use Rattle.text.specs.Text.{ascii};

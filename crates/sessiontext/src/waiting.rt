@@ -1,7 +1,7 @@
 // Waiting lines read off a text: once to judge them, and once more to put them on a page.
-ghost use Rattle.std.specs.Prelude.{◌≡◌, map, ◌+◌, ◌≤◌, min};
+ghost use Rattle.std.specs.Prelude.{◌≡◌, map, ◌+◌, ◌≤◌, min, ◌&&◌};
 ghost use Rattle.std.proofs.lemmas.List.Edits.{sets};
-ghost use Rattle.theory.specs.Basics.{length, drop, ◌&&◌, Each};
+ghost use Rattle.theory.specs.Basics.{length, drop, Each};
 ghost use Rattle.theory.specs.Limits.{degree_limit};
 ghost use Rattle.textreading.specs.Reading.{lines_of};
 ghost use Rattle.pages.specs.Page.{word_of};

@@ -1,6 +1,6 @@
 // The text of a session in lent bytes (see `text::writing`).
-ghost use Rattle.std.specs.Prelude.{◌≡◌, true};
-ghost use Rattle.theory.specs.Basics.{joined, map, ◌++◌, Each};
+ghost use Rattle.std.specs.Prelude.{◌≡◌, true, ◌++◌};
+ghost use Rattle.theory.specs.Basics.{joined, map, Each};
 ghost use Rattle.theory.specs.Partition.{degree as degree_of};
 ghost use Rattle.theory.specs.ShapeWord.{shape_of};
 ghost use Rattle.theory.specs.ClassWord.{class_of};

@@ -1,5 +1,6 @@
 -- From what the calculator answers of the class of a rank to the class itself: its parts, its size, its column.
 --   class n r   the class of rank r in the listing of degree n
+use Rattle.std.specs.Prelude.{◌^◌}
 use mathlib.Core.Path.{◌≡◌, refl, ◌∙◌, ap}
 use Prim.Native.Nat.{◌≤◌, ◌<◌}
 use native.Mathlib.Nat.{div-le_self}
@@ -10,7 +11,7 @@ use mir.Syntax.{w64}
 use mir.Val.{to_z, of_z}
 use borrow.Author.Rules.{sfits_of}
 use borrow.Author.Tests.{le-ltb, lt-leb}
-use Rattle.theory.specs.Basics.{List, [], ℕ, ◌^◌, ℤ, pos, length, get_or, replicate}
+use Rattle.theory.specs.Basics.{List, [], ℕ, ℤ, pos, length, get_or, replicate}
 use Rattle.theory.specs.Partition.{Parts, degree}
 use Rattle.theory.proofs.Partition.Laws.{length-degree}
 use Rattle.theory.specs.ClassWord.{class_word, class_of}

@@ -5,7 +5,8 @@
 --   table n classes    the table of degree n, for the classes of a list
 --   asked input        the numbers of one or two digits whose line the input is: one, or none
 --   chartable limit input   what the program writes; chartable_into, at the front of lent bytes, the rest stays
-use Rattle.theory.specs.Basics.{not, List, [], ◌∷◌, ◌++◌, map, length, get_or, drop, ℕ, ℤ}
+use Rattle.std.specs.Prelude.{◌∷◌, ◌++◌}
+use Rattle.theory.specs.Basics.{not, List, [], map, length, get_or, drop, ℕ, ℤ}
 use Rattle.theory.specs.Basics.{◌=?◌, keep, joined, down_from, same}
 use Rattle.theory.specs.Partition.{Parts}
 use Rattle.theory.specs.ClassData.{class_size}

@@ -40,8 +40,8 @@ between (negsuc n) = go (ltb n 4611686018427387903) refl
     go true e = rw (e, lt-ltb (suc n) (2 ^ 62) (omega (arith, ltb-true n _ e)))
     go false e = rw (e, le-ltb (suc n) (2 ^ 62) (omega (arith, ltb-false n _ e)))
 
-pub has_room : {z : ℤ} → SFits w64 z → tested (carried z) ≡ has_room z
-has_room {z} f = rw (to_z-of_z f) (between z)
+pub has_room_lem : {z : ℤ} → SFits w64 z → tested (carried z) ≡ has_room z
+has_room_lem {z} f = rw (to_z-of_z f) (between z)
 
 room : (z : ℤ) → nat_abs z < 2 ^ 63 → SFits w64 z
 room (pos n) l = record { sfits = l }

@@ -3,7 +3,8 @@
 --   factorial_of n     n!, and 0 where n is above 20
 --   has_room z         z lies between -2^62 and 2^62
 --   sum_of x y         x + y, and 0 where one of them does not
-use Rattle.theory.specs.Basics.{Bool, ◌&&◌, cond, ℕ, ◌^◌, ◌<?◌, ℤ, pos, negsuc, ◌+ℤ◌, nat_abs}
+use Rattle.std.specs.Prelude.{◌&&◌, ◌^◌, ◌+ℤ◌}
+use Rattle.theory.specs.Basics.{Bool, cond, ℕ, ◌<?◌, ℤ, pos, negsuc, nat_abs}
 use Rattle.theory.specs.Bounds.{factorial}
 use Rattle.theory.specs.Bounds.Laws.{largest_limit}
 

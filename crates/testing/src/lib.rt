@@ -6,6 +6,8 @@
 ghost use Rattle.std.specs.Prelude.{◌≡◌};
 ghost use Rattle.testing.specs.Tallies.{none, counted};
 
+use std::io;
+
 pub mod numbers;
 
 // How many cases of a check were run, and how many of them were wrong.
@@ -34,13 +36,10 @@ impl Tally {
 }
 
 // A line on standard output: the name of a check and its cases. No contract can say what is written.
-pub fn print(name: &[u8], tally: Tally)
+pub fn print(rt: &impl Print, name: &[u8], tally: Tally) -> io::Result<()>
     ensures { Unit {0} }
 {
-    io::write_all(1, name);
-    io::write_all(1, b": ");
-    io::print_decimal(1, tally.cases);
-    io::write_all(1, b" cases, ");
-    io::print_decimal(1, tally.wrong);
-    io::write_all(1, b" wrong\n");
+    let Tally { cases, wrong } = tally;
+    rt.write_all(name)?;
+    println!(rt; ": {cases} cases, {wrong} wrong")
 }

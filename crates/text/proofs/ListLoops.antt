@@ -1,12 +1,13 @@
 -- A loop that writes the elements of a list as text, set apart by commas: after i turns the first i stand there.
 --   Reached i end out   what it has written after i turns, and where that ends
+use Rattle.std.specs.Prelude.{◌++◌, ◌+◌}
 use mathlib.Core.Path.{◌≡◌}
 use Prim.Native.Nat.{◌≤◌, ◌<◌}
 use native.Mathlib.Numerals.{add-one}
 use native.Mathlib.Omega.{arith}
 use lib.ListN.{length-map}
 use lib.Seq.{take_all}
-use Rattle.theory.specs.Basics.{List, [], ◌++◌, map, ℕ, suc, ◌+◌, length, get_or, take}
+use Rattle.theory.specs.Basics.{List, [], map, ℕ, suc, length, get_or, take}
 use Rattle.theory.proofs.Basics.AtPlace.{map_at}
 use Rattle.text.specs.Text.{Text, commas}
 use Rattle.text.specs.Text.Lists.{separator, commas-next}

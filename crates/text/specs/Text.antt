@@ -4,9 +4,10 @@
 --   integer z          z in decimal, with minus_sign z in front: a minus if z is negative, else nothing
 --   commas ts          texts set apart by commas; list_text ns, numbers in decimal set apart by commas
 --   text_line name t    a name, a text and a newline; field, with a name that is written out here
+use Rattle.std.specs.Prelude.{◌∷◌, ◌++◌, ◌+◌, ◌/◌, ◌%◌}
 use Prim.Native.String.{String, [] as none, ◌∷◌ as ◌then◌}
 use Prim.Native.Char.{code}
-use Rattle.theory.specs.Basics.{cond, List, [], ◌∷◌, ◌++◌, map, ℕ, zero, suc, ◌+◌, ◌/◌, ◌%◌}
+use Rattle.theory.specs.Basics.{cond, List, [], map, ℕ, zero, suc}
 use Rattle.theory.specs.Basics.{ℤ, pos, negsuc, nat_abs, ◌<?◌, joined}
 pub mod Decimals
 pub mod Lists

@@ -3,9 +3,9 @@
 --   most                             the greatest number of 64 bits, given for any end beyond it
 --   Wrote text at before end after   text written behind the first `at` bytes of before leaves after, and ends at end;
 --                                    `sets` leaves out what has no room
-use Rattle.std.specs.Prelude.{◌≡◌, min}
+use Rattle.std.specs.Prelude.{◌≡◌, min, ◌+◌, ◌-◌, ◌^◌}
 use Rattle.std.proofs.lemmas.List.Edits.{sets}
-use Rattle.theory.specs.Basics.{List, ℕ, ◌+◌, ◌-◌, ◌^◌, length}
+use Rattle.theory.specs.Basics.{List, ℕ, length}
 pub mod Laws
 
 abbrev pub most : ℕ

@@ -1,12 +1,13 @@
 -- A text has as many lines as newlines, and one more where it does not end in one.
 --   newlines t   how many newlines stand in t
+use Rattle.std.specs.Prelude.{◌∷◌, ◌+◌}
 use mathlib.Core.Path.{◌≡◌, refl}
 use Prim.Native.Nat.{◌<◌}
 use native.Mathlib.Omega.{arith}
-use Rattle.theory.specs.Basics.{Bool, true, false, cond, List, [], ◌∷◌, ℕ, zero, suc, ◌+◌, length, get_or, ◌=?◌}
+use Rattle.theory.specs.Basics.{Bool, true, false, cond, List, [], ℕ, zero, suc, length, get_or, ◌=?◌}
 use Rattle.text.specs.Text.{Text}
 use Rattle.textreading.specs.Reading.{in_front, lines_of}
-use Rattle.textreading.specs.Reading.Lines.{cut}
+use Rattle.textreading.proofs.Reading.Lines.{cut}
 
 abbrev pub newlines : Text → ℕ
 newlines [] = 0

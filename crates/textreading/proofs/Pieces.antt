@@ -4,6 +4,7 @@
 --   read_on n ts       the numbers in the texts ts, where n has been read of the first
 --   column_of ns       the bytes of the numbers ns, zeros left out
 --   Reached ..        the first i bytes are read: the number in hand, and the column with those in front of it
+use Rattle.std.specs.Prelude.{◌∷◌, ◌++◌, ◌+◌}
 use mathlib.Core.Path.{◌≡◌, refl, sym, ◌∙◌, ap}
 use mathlib.Core.List.{append_assoc}
 use Prim.Native.Nat.{◌≤◌, ◌<◌, min}
@@ -14,7 +15,7 @@ use native.Mathlib.Omega.{arith}
 use borrow.Author.Tests.{lt-ltb, eq-eqb, ne_eqb}
 use lib.ListN.{drop_of_length-le}
 use lib.Seq.{drop-cons}
-use Rattle.theory.specs.Basics.{Bool, true, false, cond, List, [], ◌∷◌, ◌++◌, map, ℕ, zero, suc, ◌+◌, length, get_or, drop}
+use Rattle.theory.specs.Basics.{Bool, true, false, cond, List, [], map, ℕ, zero, suc, length, get_or, drop}
 use Rattle.theory.specs.Basics.{◌=?◌, ◌<?◌}
 use Rattle.text.specs.Text.{Text}
 use Rattle.text.specs.Wrote.{most, Wrote}

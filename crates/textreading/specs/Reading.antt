@@ -12,14 +12,13 @@
 --   small n         n, and 255 for any greater number: what a byte has of it
 --   lines_of t       the lines of t, each with the newline that ends it; a rest with no newline is one line more
 --   first_line t     the first of them, and nothing where there is none
-use Rattle.theory.specs.Basics.{Bool, true, false, cond, ◌&&◌, List, [], ◌∷◌, map, ℕ, ◌+◌, ◌-◌, ◌*◌, ℤ, pos, neg_ℤ}
+use Rattle.theory.specs.Basics.{Bool, true, false, cond, List, [], map, ℕ, ℤ, pos, neg_ℤ}
 use Rattle.theory.specs.Basics.{◌=?◌, ◌<?◌, ◌≤?◌, keep, get_or}
-use Rattle.std.specs.Prelude.{min}
+use Rattle.std.specs.Prelude.{min, ◌&&◌, ◌∷◌, ◌+◌, ◌-◌, ◌*◌}
 use Rattle.text.specs.Text.{Text}
 pub mod Bytes
 pub mod Numbers
 pub mod Lists
-pub mod Lines
 
 abbrev pub is_digit : ℕ → Bool
 is_digit b = 48 ≤? b && b ≤? 57

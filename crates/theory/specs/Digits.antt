@@ -5,7 +5,8 @@
 --   ones ds      how many of the digits are ones; zeros ds, how many are zeros
 --   up_to_last_one ds   the digits up to the last one; none if there is no one
 --   width        31: the digits of a word, without bit 31, its sign digit
-use Rattle.theory.specs.Basics.{Bool, true, false, not, cond, List, [], ◌∷◌, ℕ, zero, suc, ◌+◌, ◌/◌, ◌^◌}
+use Rattle.std.specs.Prelude.{◌∷◌, ◌+◌, ◌/◌, ◌^◌}
+use Rattle.theory.specs.Basics.{Bool, true, false, not, cond, List, [], ℕ, zero, suc}
 use Rattle.theory.specs.Basics.{◌=?◌, odd, count}
 
 abbrev pub Digits : Type 0

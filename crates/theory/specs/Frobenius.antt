@@ -2,7 +2,8 @@
 --   l_numbers rs      the l_i of the rows rs: l_i is row i and the number of rows below it
 --   differences ls   the differences l_i - l_j, of each number less each later one
 --   frobenius rs     n! times the product of the differences, divided by l_1! l_2! .. l_k!
-use Rattle.theory.specs.Basics.{List, [], ◌∷◌, ◌++◌, map, length, ℕ, ◌+◌, ◌-◌, ◌*◌, ◌/◌, product}
+use Rattle.std.specs.Prelude.{◌∷◌, ◌++◌, ◌+◌, ◌-◌, ◌*◌, ◌/◌}
+use Rattle.theory.specs.Basics.{List, [], map, length, ℕ, product}
 use Rattle.theory.specs.Partition.{Parts, degree}
 use Rattle.theory.specs.Bounds.{factorial}
 

@@ -3,8 +3,9 @@
 --   hook_at h ds i   the hook of length h whose zero is digit i, from 1, if there is one; none has length 0
 --   hooks h ds      the hooks of length h, top row first
 --   hook_word hook   the hook with the good word of what it leaves; hook_words h w, the hooks of a good word so
-use Rattle.theory.specs.Basics.{Bool, true, false, not, cond, ◌&&◌, List, [], ◌∷◌, map, length, get_or, set}
-use Rattle.theory.specs.Basics.{take, drop, ℕ, ◌+◌, ◌-◌, odd, joined, up_from}
+use Rattle.std.specs.Prelude.{◌&&◌, ◌∷◌, ◌+◌, ◌-◌}
+use Rattle.theory.specs.Basics.{Bool, true, false, not, cond, List, [], map, length, get_or, set}
+use Rattle.theory.specs.Basics.{take, drop, ℕ, odd, joined, up_from}
 use Rattle.theory.specs.Digits.{Digits, digits, word, zeros, width}
 use Rattle.theory.specs.ShapeWord.{shifted}
 pub mod Words

@@ -6,8 +6,8 @@
 --   partition_counts       how many partitions the degrees 0 to 16 have, a list of constants
 --   words_below m          the words of all shapes of degrees below m, degree by degree, each degree in listing order
 --   start n               where the words of degree n start there, for any m above n
-use Rattle.std.specs.Prelude.{◌<◌}
-use Rattle.theory.specs.Basics.{cond, List, [], ◌∷◌, ◌++◌, map, length, ℕ, zero, suc, ◌-◌, ◌≤?◌, same, keep}
+use Rattle.std.specs.Prelude.{◌<◌, ◌∷◌, ◌++◌, ◌-◌}
+use Rattle.theory.specs.Basics.{cond, List, [], map, length, ℕ, zero, suc, ◌≤?◌, same, keep}
 use Rattle.theory.specs.Basics.{joined, down_from}
 use Rattle.theory.specs.Partition.{Parts, degree}
 use Rattle.theory.specs.ShapeWord.{shape_word}

@@ -6,7 +6,8 @@
 --   times p ps       how often p occurs among the parts
 --   without m ps     the parts with one m taken out, if there is one
 --   transposed ps    rows and columns interchanged: column j is as long as there are rows of length j or more
-use Rattle.theory.specs.Basics.{Bool, true, cond, ◌&&◌, List, [], ◌∷◌, map, ℕ}
+use Rattle.std.specs.Prelude.{◌&&◌, ◌∷◌}
+use Rattle.theory.specs.Basics.{Bool, true, cond, List, [], map, ℕ}
 use Rattle.theory.specs.Basics.{get_or, ◌=?◌, ◌<?◌, ◌≤?◌, count, total, up_from}
 pub mod Laws
 

@@ -8,7 +8,8 @@
 --   shape_checks         the checks of a single call on a shape word; class_checks, on a class word; pair_checks, on both
 --   good_shape_checks     the checks of a shape word that has to be good, as those of lists (P5, P6)
 --   shape_list_checks     the checks of a part list for a shape; class_list_checks, for a class
-use Rattle.theory.specs.Basics.{Bool, not, cond, ◌&&◌, List, [], ◌∷◌, length, take, ℕ, zero, suc, ◌=?◌, ◌<?◌}
+use Rattle.std.specs.Prelude.{◌&&◌, ◌∷◌}
+use Rattle.theory.specs.Basics.{Bool, not, cond, List, [], length, take, ℕ, zero, suc, ◌=?◌, ◌<?◌}
 use Rattle.theory.specs.Basics.{◌≤?◌, same}
 use Rattle.theory.specs.Limits.{page_limit, list_limit}
 use Rattle.theory.specs.Partition.{Parts, is_partition, degree, times}

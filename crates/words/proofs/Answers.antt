@@ -1,9 +1,10 @@
 -- From what a call finds to the promised answer: one law for each way in which a call answers, for all calls.
 --   too_short k xs column   the check, by the number k, of a column that has no room for xs: 14 is one
+use Rattle.std.specs.Prelude.{◌∷◌, ◌++◌}
 use mathlib.Core.Path.{◌≡◌, refl, sym, ◌∙◌, ap}
 use Prim.Native.Nat.{◌≤◌, ◌<◌}
 use borrow.Author.Tests.{le-ltb, lt-ltb}
-use Rattle.theory.specs.Basics.{List, [], ◌∷◌, ◌++◌, length, ℕ, ℤ, pos, ◌<?◌}
+use Rattle.theory.specs.Basics.{List, [], length, ℕ, ℤ, pos, ◌<?◌}
 use Rattle.theory.specs.Refusals.{Check, first_of}
 use Rattle.theory.specs.Refusals.Laws.{Numbered}
 use Rattle.theory.proofs.Refusals.Laws.{or-refused, first-refuses, first_passes}

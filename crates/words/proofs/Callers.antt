@@ -1,5 +1,6 @@
 -- From a promised answer to what its caller learns: the number that refused, and if none did, what was given.
 --   FrontGiven xs r after   the answer r has the count of xs, and xs stand at the front of the column
+use Rattle.std.specs.Prelude.{◌∷◌, ◌++◌}
 use mathlib.Core.Path.{◌≡◌, refl, ◌∙◌, ap, ap₂}
 use Prim.Native.Nat.{◌≤◌}
 use native.Mathlib.Decide.{ℕ_discrete}
@@ -7,7 +8,7 @@ use native.Mathlib.Omega.{arith}
 use lib.ListN.{length-append}
 use lib.Seq.{take_at}
 use borrow.Author.Tests.{le-ltb}
-use Rattle.theory.specs.Basics.{List, [], ◌∷◌, ◌++◌, length, take, ℕ, ℤ, pos}
+use Rattle.theory.specs.Basics.{List, [], length, take, ℕ, ℤ, pos}
 use Rattle.theory.specs.Refusals.{Check, first_of, refused_or}
 use Rattle.theory.specs.Refusals.Laws.{Numbered}
 use Rattle.theory.proofs.Refusals.Laws.{answer-number, answer-given, answer-refused}

@@ -2,11 +2,12 @@
 -- left of it: a class word part by part, and a shape word for its pairs.
 --   parts_left at rest   the parts of what is left
 --   NextPart at rest    what a turn of the loop reads by the leading zeros of what is left, and takes off it
+use Rattle.std.specs.Prelude.{◌-◌, ◌*◌, ◌%◌, ◌^◌}
 use mathlib.Core.Path.{◌≡◌}
 use Prim.Native.Nat.{◌<◌}
 use native.Mathlib.Omega.{arith}
 use lib.Count.{count_leading_zeros}
-use Rattle.theory.specs.Basics.{[], ℕ, ◌-◌, ◌*◌, ◌%◌, ◌^◌}
+use Rattle.theory.specs.Basics.{[], ℕ}
 use Rattle.theory.specs.Partition.{Parts}
 use Rattle.theory.specs.Digits.{digits}
 use Rattle.theory.specs.ClassWord.{parts_after}

@@ -1,11 +1,12 @@
 -- A loop that multiplies while it reads a class word: with degree d read its product is at most d!, so there is room.
 --   Multiplying at rest product   such a loop, where `at` digits have been read and the number `rest` is left
 --   Factor at rest product        what a turn of it finds: the next part, and room for a factor within the degree then
+use Rattle.std.specs.Prelude.{◌+◌, ◌-◌, ◌*◌, ◌%◌, ◌^◌}
 use mathlib.Core.Path.{◌≡◌, ap}
 use Prim.Native.Nat.{◌≤◌, ◌<◌}
 use native.Mathlib.Omega.{arith}
 use lib.Count.{count_leading_zeros}
-use Rattle.theory.specs.Basics.{ℕ, ◌+◌, ◌-◌, ◌*◌, ◌%◌, ◌^◌}
+use Rattle.theory.specs.Basics.{ℕ}
 use Rattle.theory.specs.Partition.{degree}
 use Rattle.theory.proofs.ClassData.Laws.{factor-room}
 use Rattle.theory.specs.Bounds.{factorial}

@@ -2,10 +2,11 @@
 --   Writing w left bits ps             `bits`, and the parts ps that are not written yet in the `left` last digits,
 --                                      make the word w
 --   PartWritten w left bits p b rest   a turn of the loop writes the part p, before the parts `rest`, by the bit b
+use Rattle.std.specs.Prelude.{◌∷◌, ◌+◌, ◌-◌, ◌*◌, ◌%◌, ◌^◌}
 use mathlib.Core.Path.{◌≡◌, ap}
 use Prim.Native.Nat.{◌≤◌, ◌<◌}
 use native.Mathlib.Omega.{arith}
-use Rattle.theory.specs.Basics.{true, [], ◌∷◌, ℕ, ◌+◌, ◌-◌, ◌*◌, ◌%◌, ◌^◌}
+use Rattle.theory.specs.Basics.{true, [], ℕ}
 use Rattle.theory.specs.Partition.{Parts, is_partition, degree}
 use Rattle.theory.proofs.Partition.Laws.{front}
 use Rattle.theory.specs.Digits.{word}

@@ -1,5 +1,6 @@
 -- A loop that writes a list to the front of a lent column.
 --   Putting xs lent column i left   the first of xs stand in the lent column; those left go to the place i on
+use Rattle.std.specs.Prelude.{◌∷◌, ◌++◌, ◌+◌}
 use mathlib.Core.Path.{◌≡◌, refl, sym, ◌∙◌, ap}
 use Prim.Native.Nat.{◌≤◌}
 use native.Mathlib.Nat.{zero-add}
@@ -8,7 +9,7 @@ use native.Mathlib.Omega.{arith}
 use mathlib.Core.List.{append-nil}
 use lib.ListN.{set, length-set, drop_of_length-le}
 use lib.Seq.{sets, sets-eq}
-use Rattle.theory.specs.Basics.{List, [], ◌∷◌, ◌++◌, ℕ, ◌+◌, length}
+use Rattle.theory.specs.Basics.{List, [], ℕ, length}
 use Rattle.words.specs.Answers.{at_front}
 
 module _ {A : Type 0} (xs lent : List A) where

@@ -1,9 +1,10 @@
 -- The table of factorials and its rule; and that up to the largest limit a factorial has room in 63 bits.
+use Rattle.std.specs.Prelude.{◌∷◌, ◌^◌}
 use mathlib.Core.Path.{◌≡◌, refl}
 use Prim.Native.Nat.{◌≤◌, ◌<◌}
 use native.Mathlib.Nat.{lt_of_le_of_lt}
 use native.Mathlib.Omega.{arith}
-use Rattle.theory.specs.Basics.{true, List, [], ◌∷◌, ℕ, ◌^◌, get_or}
+use Rattle.theory.specs.Basics.{true, List, [], ℕ, get_or}
 use Rattle.theory.specs.Basics.AtPlace.{tabled}
 use Rattle.theory.proofs.Basics.AtPlace.{tabled-at}
 use Rattle.theory.specs.Bounds.{factorial}

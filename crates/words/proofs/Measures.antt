@@ -1,19 +1,20 @@
 -- A reader's measure: how the reader makes it, what it tells a caller, and what a caller answers with it.
 --   Measures checks ps m       no check refuses, and the measure m has the degree and the count of the parts ps
 --   ClassMeasures limit w m    the same of the class word w, which is then good and within the limit
+use Rattle.std.specs.Prelude.{◌∷◌, ◌++◌}
 use mathlib.Core.Path.{◌≡◌, refl, sym, ◌∙◌, ap}
-use Prim.Native.Nat.{◌≤◌, ◌<◌}
+use Prim.Native.Nat.{◌≤◌}
 use native.Mathlib.Decide.{ℕ_discrete}
 use native.Mathlib.Omega.{arith}
 use borrow.Author.Tests.{ltb-false, not-false}
-use Rattle.theory.specs.Basics.{Bool, true, false, cond, List, [], ◌∷◌, ◌++◌, length, ℕ, ℤ, pos, ◌<?◌}
+use Rattle.theory.specs.Basics.{Bool, true, false, cond, List, [], length, ℕ, ℤ, pos, ◌<?◌}
 use Rattle.theory.specs.Partition.{Parts, is_partition, degree}
 use Rattle.theory.specs.ClassWord.{class_of}
 use Rattle.theory.specs.Bounds.Laws.{largest_limit}
 use Rattle.theory.specs.Refusals.{Check, first_of, refused_or, no-14, class_checks}
 use Rattle.theory.specs.Refusals.Laws.{Numbered, WithinClass}
 use Rattle.theory.proofs.Refusals.Laws.{or-refused, answer-number, answer-given, none-applies, first-refuses}
-use Rattle.theory.proofs.Refusals.Laws.{first_passes, both-pass, within, within-class}
+use Rattle.theory.proofs.Refusals.Laws.{first_passes, both-pass, within-class}
 use Rattle.words.specs.declared.Measure.{Measure}
 use Rattle.words.specs.Answers.{CountAnswer}
 use Rattle.words.specs.Answers.{Outcome, number_answer, count_answer, at_front, numbered, written, NumberAnswer}

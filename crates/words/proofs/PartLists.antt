@@ -1,4 +1,5 @@
 -- A loop over a part list: what is left of it at a place i. Each law says what the next part does.
+use Rattle.std.specs.Prelude.{◌∷◌, ◌+◌}
 use mathlib.Core.Path.{◌≡◌, refl, ap}
 use Prim.Native.Nat.{◌<◌, ◌≤◌}
 use native.Mathlib.Numerals.{add-one}
@@ -6,7 +7,7 @@ use native.Mathlib.Omega.{arith}
 use borrow.Author.Tests.{le-ltb}
 use lib.ListN.{drop_of_length-le}
 use lib.Seq.{drop-cons}
-use Rattle.theory.specs.Basics.{false, [], ◌∷◌, ℕ, zero, suc, ◌+◌, length, get_or, drop}
+use Rattle.theory.specs.Basics.{false, [], ℕ, zero, suc, length, get_or, drop}
 use Rattle.theory.specs.Partition.{Parts, first, is_partition, degree}
 use Rattle.theory.proofs.Partition.Laws.{rise, fall}
 

@@ -6,8 +6,8 @@
 --   NumberedBy checks P answer      the answer gives a number of which P holds, or the number that refuses beside 0
 --   at_front xs column               xs at the front of a lent column, the rest of it stays
 --   written checks last xs column   xs at the front of a lent column, and their count; `last`, of both, is asked last
-use Rattle.std.specs.Prelude.{◌≡◌}
-use Rattle.theory.specs.Basics.{List, [], ◌∷◌, ◌++◌, length, drop, ℕ, ℤ, pos}
+use Rattle.std.specs.Prelude.{◌≡◌, ◌∷◌, ◌++◌}
+use Rattle.theory.specs.Basics.{List, [], length, drop, ℕ, ℤ, pos}
 use Rattle.theory.specs.Refusals.{Check, first_of, refused_or}
 pub use Rattle.words.specs.declared.WordAnswer.{WordAnswer}
 pub use Rattle.words.specs.declared.NumberAnswer.{NumberAnswer}

@@ -13,36 +13,42 @@ mod old_lists;
 mod partitions;
 mod walk;
 
+use std::io;
 use testing::print;
 use walk::Found;
 
-fn print_words(found: Found) {
-    print(b"shape word there and back", found.shapes);
-    print(b"class word there and back", found.classes);
-    print(b"class words rise", found.rises);
-    print(b"the listing has it at this rank", found.listed);
-    print(b"columns too short and longer", found.columns);
-    print(b"old form and new", found.forms);
-    print(b"with ones in front, as many as fit", found.in_front);
+fn print_words(rt: &impl Print, found: Found) -> io::Result<()> {
+    print(rt, b"shape word there and back", found.shapes)?;
+    print(rt, b"class word there and back", found.classes)?;
+    print(rt, b"class words rise", found.rises)?;
+    print(rt, b"the listing has it at this rank", found.listed)?;
+    print(rt, b"columns too short and longer", found.columns)?;
+    print(rt, b"old form and new", found.forms)?;
+    print(rt, b"with ones in front, as many as fit", found.in_front)
 }
 
-fn print_told(found: Found) {
-    print(b"conjugate", found.conjugates);
-    print(b"sign", found.signs);
-    print(b"period", found.periods);
-    print(b"class sizes sum to n!", found.sizes);
+fn print_told(rt: &impl Print, found: Found) -> io::Result<()> {
+    print(rt, b"conjugate", found.conjugates)?;
+    print(rt, b"sign", found.signs)?;
+    print(rt, b"period", found.periods)?;
+    print(rt, b"class sizes sum to n!", found.sizes)
 }
 
-fn main() {
-    let found = walk::all();
-    print_words(found);
-    print_told(found);
-    print(b"words at a border, E4, E6", borders::words());
-    print(b"ones in front at a border, E4", borders::ones_in_front());
-    print(b"lists at a border, E1, E2, E3, E5", borders::lists());
+fn main(rt: HostRuntime) -> io::Result<()> {
+    let found = walk::all(&rt)?;
+    print_words(&rt, found)?;
+    print_told(&rt, found)?;
+    print(&rt, b"words at a border, E4, E6", borders::words())?;
     print(
+        &rt,
+        b"ones in front at a border, E4",
+        borders::ones_in_front(),
+    )?;
+    print(&rt, b"lists at a border, E1, E2, E3, E5", borders::lists())?;
+    print(
+        &rt,
         b"all partitions in one list, to the old form and back",
         old_lists::all(),
-    );
-    print(b"lists of shapes at a border", old_lists::borders());
+    )?;
+    print(&rt, b"lists of shapes at a border", old_lists::borders())
 }

@@ -2,6 +2,7 @@
 use super::class_data::{period_agrees, sign_agrees};
 use super::columns::{Kind, fit, there_and_back};
 use super::{class_data, conjugates, in_front, old_lists, partitions};
+use std::io;
 use testing::Tally;
 use testing::numbers::factorial;
 use words::WordAnswer;
@@ -84,15 +85,15 @@ fn partitions_of(found: Found, n: u8) -> Found {
 }
 
 // All partitions of n: their number on standard output, and whether the sizes of their classes sum to n!.
-fn meet_degree(found: Found, n: u8) -> Found {
+fn meet_degree(rt: &impl Print, found: Found, n: u8) -> io::Result<Found> {
     let mut f = found;
     f.number = 0;
     f.sum = 0;
     f = partitions_of(f, n);
-    io::write_all(1, b" ");
-    io::print_decimal(1, f.number);
+    let number = f.number;
+    print!(rt; " {number}")?;
     f.sizes = f.sizes.add(f.sum == factorial(n));
-    f
+    Ok(f)
 }
 
 fn nothing() -> Found {
@@ -115,14 +116,14 @@ fn nothing() -> Found {
     }
 }
 
-pub fn all() -> Found {
-    io::write_all(1, b"partitions of degree 0 to 16:");
+pub fn all(rt: &impl Print) -> io::Result<Found> {
+    print!(rt; "partitions of degree 0 to 16:")?;
     let mut found = nothing();
     let mut n = 0u8;
     while n <= 16 {
-        found = meet_degree(found, n);
+        found = meet_degree(rt, found, n)?;
         n += 1;
     }
-    io::write_all(1, b"\n");
-    found
+    println!(rt)?;
+    Ok(found)
 }

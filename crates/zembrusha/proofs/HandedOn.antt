@@ -1,6 +1,7 @@
 -- What an export hands on of a call's answer.
 --   number_of    the number of the answer, as a signed machine number that is read back
 --   outcome-of   an answer handed over in another form, beside the lent run as the call left it
+use Rattle.std.specs.Prelude.{◌^◌}
 use mathlib.Core.Path.{◌≡◌, ◌∙◌, ap}
 use Prim.Native.Nat.{◌<◌}
 use lib.Signed.{mag}
@@ -8,7 +9,6 @@ use mir.Syntax.{w64}
 use mir.Val.{to_z, of_z}
 use mir.Facts.{to_z-of_z}
 use borrow.Author.Rules.{sfits_of}
-use Rattle.theory.specs.Basics.{◌^◌}
 use Rattle.words.specs.Answers.{Outcome}
 use Rattle.words.specs.declared.NumberAnswer.{NumberAnswer}
 

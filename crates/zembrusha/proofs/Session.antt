@@ -2,8 +2,9 @@
 -- (`Reads.Post`), goes in front of a run, or begins a session.
 --   InFront f calls end at call   the call, made at `at`, goes in front of the calls that lead to `end`
 --   at-hand counted saves slip x  a run stands so, slip and what is lent those that an export was handed
+use Rattle.std.specs.Prelude.{◌∷◌}
 use mathlib.Core.Path.{◌≡◌}
-use Rattle.theory.specs.Basics.{List, [], ◌∷◌, ℕ, ℤ}
+use Rattle.theory.specs.Basics.{List, [], ℕ, ℤ}
 use Rattle.sessiontext.specs.SessionText.{Form, plain_form, gathered_form}
 use Rattle.sessionruns.specs.Run.{Saves, counts_at, Standing, standing, after, begun}
 use Rattle.zembrusha.specs.declared.Slip.{Slip}

@@ -11,8 +11,8 @@
 --                        a class, on x, and a run from there
 --   first s              where the session s stands when it was opened
 --   all_theirs now calls  the calculator's calls that ask and answer the same, one after the other
-use Rattle.std.specs.Prelude.{◌≡◌, Float}
-use Rattle.theory.specs.Basics.{List, [], ◌∷◌, ℕ, ℤ}
+use Rattle.std.specs.Prelude.{◌≡◌, Float, ◌∷◌}
+use Rattle.theory.specs.Basics.{List, [], ℕ, ℤ}
 use Rattle.theory.specs.Limits.{degree_limit}
 use Rattle.words.specs.declared.CountAnswer.{CountAnswer}
 use Rattle.words.specs.Answers.{Outcome}

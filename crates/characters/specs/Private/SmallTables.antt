@@ -7,8 +7,8 @@
 --   TableRow n r row  five numbers that begin with the row of rank r in the table of degree n
 --   RowOf row cs      five numbers that begin with the column of the cycles cs
 --   cycles_left cs     what is left of the cycles cs when the first are struck until their degree is at most 4
-use Rattle.std.specs.Prelude.{◌≡◌, ◌<◌, ◌≤◌}
-use Rattle.theory.specs.Basics.{cond, List, [], ◌∷◌, length, get_or, ℕ, ◌^◌, ◌≤?◌, ℤ, pos, negsuc}
+use Rattle.std.specs.Prelude.{◌≡◌, ◌<◌, ◌≤◌, ◌∷◌, ◌^◌}
+use Rattle.theory.specs.Basics.{cond, List, [], length, get_or, ℕ, ◌≤?◌, ℤ, pos, negsuc}
 use Rattle.theory.specs.Partition.{Parts, degree}
 use Rattle.theory.specs.Digits.{width}
 use Rattle.theory.specs.ClassWord.{class_of}

@@ -3,7 +3,7 @@
 --   negative z     z is below 0
 --   ratio_limit     18: the largest degree whose factorial is at most 2^53
 --   Exact l        both numbers of the ratio of the line l are carried over without loss, and it is divided by no zero
-use Rattle.std.specs.Prelude.{◌≡◌, refl, ◌≤◌, ◌<◌, T, Float}
+use Rattle.std.specs.Prelude.{◌≡◌, refl, ◌≤◌, ◌<◌, T, Float, ◌*◌, ◌^◌}
 use Rattle.std.proofs.Common.{sym, ◌∙◌, ap, le_trans, one-mul, mul-one, mul_assoc, mul_comm, mul-pos, arith, le→leb, lt→ltb, ne_eqb}
 use Rattle.std.proofs.Math.Bridge.{le_by_compare, IsLe}
 use Rattle.std.specs.Int.Signed.{non_neg}
@@ -13,7 +13,7 @@ use Rattle.std.specs.Float.Ieee.Exact.{HasValue}
 use Rattle.std.specs.Float.Ieee.Back.{round_whole}
 use Rattle.std.specs.Float.Ieee.Scale.{round_same}
 use Rattle.std.specs.Float.Ieee.Fits.{down_pos}
-use Rattle.theory.specs.Basics.{Bool, true, false, not, ℕ, suc, ◌*◌, ◌^◌, ℤ, pos, negsuc, nat_abs}
+use Rattle.theory.specs.Basics.{Bool, true, false, not, ℕ, suc, ℤ, pos, negsuc, nat_abs}
 use Rattle.theory.specs.Character.{character_degree}
 use Rattle.theory.specs.ShapeWord.{shape_of}
 use Rattle.theory.specs.Bounds.{factorial}

@@ -1,7 +1,8 @@
 -- Made by tools/tables.py: the displacements that give the shape words their places (Places.antt).
 --   displacement_table     one for each number of eight digits
 --   largest_displacement   the largest of them
-use Rattle.theory.specs.Basics.{List, [], ◌∷◌, ℕ}
+use Rattle.std.specs.Prelude.{◌∷◌}
+use Rattle.theory.specs.Basics.{List, [], ℕ}
 
 abbrev pub largest_displacement : ℕ
 largest_displacement = 864

@@ -4,7 +4,8 @@
 --   place_of t     the place of a shape word t: by its digits 2 to 9 a displacement, and its digits 10 to 17 added
 --   place_count    so places are below it
 --   shape_places   these places, at document 01's limit
-use Rattle.theory.specs.Basics.{ℕ, ◌+◌, ◌/◌, ◌%◌, ◌^◌, get_or}
+use Rattle.std.specs.Prelude.{◌+◌, ◌/◌, ◌%◌, ◌^◌}
+use Rattle.theory.specs.Basics.{ℕ, get_or}
 use Rattle.theory.specs.Limits.{degree_limit}
 use Rattle.classcolumns.specs.Private.Displacements.{displacement_table, largest_displacement}
 

@@ -1,8 +1,9 @@
 -- `clearing::words` meets its contract: what is to be cleared from the present place on makes the same page.
+use Rattle.std.specs.Prelude.{◌++◌, ◌-◌}
 use mathlib.Core.Path.{◌≡◌, refl, sym, ◌∙◌}
 use native.Mathlib.Omega.{arith}
 use lib.ListN.{length-set}
-use Rattle.theory.specs.Basics.{◌++◌, ◌-◌, length, take, replicate}
+use Rattle.theory.specs.Basics.{length, take, replicate}
 use Rattle.clearing.proofs.ZerosBehind.{clears-more, cleared-all}
 use borrow.Author.Rules.{rules}
 use Rattle.clearing.proofs.words.Statement.{statement}

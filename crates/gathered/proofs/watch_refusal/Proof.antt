@@ -1,5 +1,5 @@
 -- `gathered::watch_refusal` meets its contract: slip, page and column come first, then kind and line.
-use mathlib.Core.Path.{◌≡◌, sym, ◌∙◌}
+use mathlib.Core.Path.{sym, ◌∙◌}
 use borrow.Author.Rules.{rules}
 use Rattle.theory.specs.Limits.{degree_limit}
 use Rattle.pages.specs.Lawful.Gathered.{gathered-lawful}

@@ -15,10 +15,10 @@
 --   Joinable ..            what is asked of hook lines that are joined to the lines of a page; Joins .., the same with
 --                          their places and the room
 --   joined_onto ..          what is told and left of page and column where they are joined, if there is room
-use Rattle.std.specs.Prelude.{◌≡◌, ◌≤◌, ◌<◌}
-use Rattle.theory.specs.Basics.{Bool, true, false, cond, List, [], ◌∷◌, ◌++◌, map, length, get_or, set, take, drop, ℕ}
-use Rattle.theory.specs.Basics.{suc, ◌+◌, ◌*◌}
-use Rattle.theory.specs.Basics.{◌^◌, ℤ, pos, ◌+ℤ◌, nat_abs, ◌=?◌, ◌<?◌, keep, every, Each}
+use Rattle.std.specs.Prelude.{◌≡◌, ◌≤◌, ◌<◌, ◌∷◌, ◌++◌, ◌+◌, ◌*◌, ◌^◌, ◌+ℤ◌}
+use Rattle.theory.specs.Basics.{Bool, true, false, cond, List, [], map, length, get_or, set, take, drop, ℕ}
+use Rattle.theory.specs.Basics.{suc}
+use Rattle.theory.specs.Basics.{ℤ, pos, nat_abs, ◌=?◌, ◌<?◌, keep, every, Each}
 use Rattle.theory.specs.Limits.{degree_limit, page_limit}
 use Rattle.pages.specs.Line.{Line}
 use Rattle.pages.specs.Page.{line_at}

@@ -3,8 +3,8 @@
 --   struck_checks ..     the checks of the cycle and of the strip
 --   Hooked cycle l ..   what an accepted strike tells and leaves: the hook lines of l that wait, as words and weights
 --   Strikes cycle l ..  what a strike answers, and what it leaves where it does not refuse
-use Rattle.std.specs.Prelude.{◌≡◌, ◌≤◌}
-use Rattle.theory.specs.Basics.{List, [], ◌∷◌, map, length, take, ℕ, ◌%◌, ◌^◌, ℤ, signed, sum}
+use Rattle.std.specs.Prelude.{◌≡◌, ◌≤◌, ◌∷◌, ◌%◌, ◌^◌}
+use Rattle.theory.specs.Basics.{List, [], map, length, take, ℕ, ℤ, signed, sum}
 use Rattle.theory.specs.Digits.{bit}
 use Rattle.theory.specs.Limits.{degree_limit}
 use Rattle.theory.specs.ClassWord.{class_of}

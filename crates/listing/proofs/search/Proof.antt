@@ -1,10 +1,11 @@
 -- listing::search meets its contract. The loop's invariant: the word's rank is not passed. The measure is how
 -- far ahead it is.
+use Rattle.std.specs.Prelude.{◌+◌}
 use mathlib.Core.Path.{◌≡◌, sym, ◌∙◌, ap, ap₂}
 use Prim.Native.Nat.{◌≤◌, ◌<◌, ◌-◌}
 use native.Mathlib.Omega.{arith}
 use borrow.Author.Rules.{rules}
-use Rattle.theory.specs.Basics.{List, ℕ, ◌+◌, get_or, length}
+use Rattle.theory.specs.Basics.{List, ℕ, get_or, length}
 use Rattle.theory.specs.Partition.{degree}
 use Rattle.theory.specs.ShapeWord.{shape_of}
 use Rattle.theory.specs.Listing.{rank, start}

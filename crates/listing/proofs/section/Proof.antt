@@ -1,11 +1,12 @@
 -- listing::section meets its contract: a degree starts after the sum of the counts before it, and the constants are
 -- document 01's.
+use Rattle.std.specs.Prelude.{◌∷◌}
 use mathlib.Core.Path.{◌≡◌, refl, sym, ◌∙◌, ap₂}
 use Prim.Native.Nat.{◌≤◌}
 use native.Mathlib.Omega.{arith}
 use borrow.Author.Rules.{rules}
 use borrow.Author.Tests.{lt-ltb, le-ltb}
-use Rattle.theory.specs.Basics.{List, [], ◌∷◌, ℕ, get_or, take, total}
+use Rattle.theory.specs.Basics.{List, [], ℕ, get_or, take, total}
 use Rattle.theory.proofs.Basics.AtPlace.{tabled-at}
 use Rattle.theory.specs.Listing.{partition_counts, start}
 use Rattle.theory.proofs.Listing.Laws.{count_kept}

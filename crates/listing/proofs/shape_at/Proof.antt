@@ -1,9 +1,10 @@
 -- listing::shape_at meets its contract: the words of a degree stand from its start on, in listing order.
+use Rattle.std.specs.Prelude.{◌+◌}
 use mathlib.Core.Path.{◌≡◌, ◌∙◌, ap, ap₂}
 use Prim.Native.Nat.{◌≤◌, ◌<◌}
 use native.Mathlib.Omega.{arith}
 use borrow.Author.Rules.{rules}
-use Rattle.theory.specs.Basics.{List, ℕ, suc, ◌+◌, get_or, length}
+use Rattle.theory.specs.Basics.{List, ℕ, suc, get_or, length}
 use Rattle.theory.specs.Listing.{listing, start}
 use Rattle.theory.proofs.Listing.Words.{word_at}
 use Rattle.theory.specs.Limits.{degree_limit}

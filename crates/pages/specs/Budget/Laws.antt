@@ -1,14 +1,14 @@
 -- Soundness is decided by budgets that fall, and never by a sum that grows; lines can be counted in parts.
 --   Afforded n value span lines   the lines are sound within n, and what they count in all is within the two budgets
-use Rattle.std.specs.Prelude.{◌≡◌, min, ◌≤◌}
+use Rattle.std.specs.Prelude.{◌≡◌, min, ◌≤◌, ◌&&◌, ◌∷◌, ◌++◌, ◌-◌}
 use Rattle.std.proofs.Math.Path.{refl, ap}
 use Rattle.std.proofs.Common.{sym, ◌∙◌}
 use Rattle.std.proofs.lemmas.Bool.{false≢true}
 use native.Mathlib.Omega.{arith}
 use Rattle.std.specs.Int.Signed.{non_neg}
 use borrow.Author.Tests.{leb-true, le-leb}
-use Rattle.theory.specs.Basics.{Bool, true, false, cond, ◌&&◌, List, [], ◌∷◌, ◌++◌, length, drop, ℕ, ◌-◌, nat_abs, ◌=?◌}
-use Rattle.theory.specs.Basics.{◌≤?◌, every, Each}
+use Rattle.theory.specs.Basics.{Bool, true, false, cond, List, [], length, ℕ, nat_abs, ◌=?◌}
+use Rattle.theory.specs.Basics.{◌≤?◌, Each}
 use Rattle.theory.proofs.Basics.Laws.{both}
 use Rattle.theory.proofs.Basics.Keep.{same_test}
 use Rattle.theory.specs.Bounds.{factorial, S}

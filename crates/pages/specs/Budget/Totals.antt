@@ -1,12 +1,12 @@
 -- What lines leave of a budget, by their totals: they are taken one after the other, and it comes to the same as if all
 -- were counted first (document 01: "its size plus the sum of all d! is at most n!").
 --   suffices n value span lines   each line is sound within n, and their totals are within the two budgets
-use Rattle.std.specs.Prelude.{◌≡◌, min, ◌≤◌}
+use Rattle.std.specs.Prelude.{◌≡◌, min, ◌≤◌, ◌&&◌, ◌∷◌, ◌+◌, ◌-◌}
 use Rattle.std.proofs.Math.Path.{refl}
 use Rattle.std.proofs.Common.{◌∙◌, ap}
 use native.Mathlib.Omega.{arith}
 use borrow.Author.Tests.{leb-true, le-leb, leb-false, lt-leb}
-use Rattle.theory.specs.Basics.{Bool, true, false, cond, ◌&&◌, List, [], ◌∷◌, ℕ, ◌+◌, ◌-◌, ◌≤?◌, every}
+use Rattle.theory.specs.Basics.{Bool, true, false, cond, List, [], ℕ, ◌≤?◌, every}
 use Rattle.theory.proofs.Basics.Keep.{same_test}
 use Rattle.pages.specs.Line.{Line}
 use Rattle.pages.specs.Sound.{sound_line, line_value, line_span}

@@ -3,11 +3,11 @@
 -- one is taken from the other.
 --   SameSums plain joint   each line has one coefficient in both
 --   opposite l             the line l with the opposite weight
-use Rattle.std.specs.Prelude.{◌≡◌, refl, ◌<◌}
+use Rattle.std.specs.Prelude.{◌≡◌, refl, ◌<◌, ◌∷◌, ◌++◌, ◌+ℤ◌, ◌-ℤ◌}
 use Rattle.std.proofs.Common.{sym, ◌∙◌, ap, ap₂, arith}
 use Rattle.std.proofs.lemmas.Bool.{false≢true, not-true}
 use Rattle.std.proofs.Math.IntN.{+ℤ_idl, +ℤ_idr, +ℤ_comm, +ℤ_invr, +ℤ-neg_ℤ_cancel, neg_ℤ-+ℤ}
-use Rattle.theory.specs.Basics.{true, not, List, [], ◌∷◌, ◌++◌, map, length, ℕ, zero, suc, ℤ, pos, ◌+ℤ◌, ◌-ℤ◌, neg_ℤ}
+use Rattle.theory.specs.Basics.{true, not, List, [], map, length, ℕ, zero, suc, ℤ, pos, neg_ℤ}
 use Rattle.theory.specs.Basics.{nat_abs, ◌=?◌, every, sum}
 use Rattle.theory.proofs.Basics.AtPlace.{each_at}
 use Rattle.theory.proofs.Basics.Laws.{both, sum-append}

@@ -2,14 +2,14 @@
 -- equal to no line come at the end, in their order.
 --   bring hs l       the line l with what hs bring to it
 --   is_new lines h    no line is equal to h
-use Rattle.std.specs.Prelude.{◌≡◌}
+use Rattle.std.specs.Prelude.{◌≡◌, ◌&&◌, ◌∷◌, ◌++◌, ◌+ℤ◌}
 use Rattle.std.proofs.Math.Path.{refl}
 use Rattle.std.proofs.Common.{sym, ◌∙◌, ap, ap₂, append_assoc, append-nil}
 use Rattle.std.proofs.lemmas.List.{map-append}
 use Rattle.std.proofs.lemmas.Simd.{map-map}
 use Rattle.std.proofs.lemmas.Bool.{not-true}
 use Rattle.std.proofs.Math.IntN.{+ℤ_assoc, +ℤ_idl, +ℤ_idr}
-use Rattle.theory.specs.Basics.{Bool, true, false, not, cond, ◌&&◌, List, [], ◌∷◌, ◌++◌, map, ℤ, pos, ◌+ℤ◌, keep, every}
+use Rattle.theory.specs.Basics.{Bool, true, false, not, cond, List, [], map, ℤ, pos, keep, every}
 use Rattle.theory.specs.Basics.{sum, Each}
 use Rattle.theory.proofs.Basics.Laws.{each_same, each_member, map_same}
 use Rattle.theory.proofs.Basics.Keep.{every-each, each-kept, keep_all, keep_append, keep_same}

@@ -1,11 +1,11 @@
 -- Lines that are different stay so (document 02, P7, "equal lines are joined at the earliest"): where one is brought to
 -- them, where some are taken out, and where one is chosen and struck out.
 --   unlike l m   l and m are not equal; Unlike l m, the same as a type
-use Rattle.std.specs.Prelude.{◌≡◌, refl, ◌<◌}
+use Rattle.std.specs.Prelude.{◌≡◌, refl, ◌<◌, ◌∷◌, ◌++◌, ◌+ℤ◌}
 use Rattle.std.proofs.Common.{sym, ◌∙◌, ap, arith, eq-eqb}
 use Rattle.std.proofs.lemmas.Bool.{not-true}
-use Rattle.theory.specs.Basics.{Bool, true, false, not, cond, List, [], ◌∷◌, ◌++◌, length, take, drop, ℕ, zero, suc}
-use Rattle.theory.specs.Basics.{pos, ◌+ℤ◌, keep, every, Each}
+use Rattle.theory.specs.Basics.{Bool, true, false, not, cond, List, [], length, take, drop, ℕ, zero, suc}
+use Rattle.theory.specs.Basics.{pos, keep, every, Each}
 use Rattle.theory.proofs.Basics.AtPlace.{each_at}
 use Rattle.theory.proofs.Basics.Laws.{both}
 use Rattle.theory.proofs.Basics.Keep.{each-others, every-each, each-every, each-kept, every-kept, same_test}

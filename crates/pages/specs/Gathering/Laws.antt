@@ -4,13 +4,13 @@
 --   Lightens g        the same of a number g that is at most that
 --   Weightless P      P does not look at the weight
 --   weight_for k l     the weight of l if it is equal to k, and else 0
-use Rattle.std.specs.Prelude.{◌≡◌, ◌≤◌}
+use Rattle.std.specs.Prelude.{◌≡◌, ◌≤◌, ◌∷◌, ◌+◌, ◌+ℤ◌, ◌-ℤ◌}
 use Rattle.std.proofs.Math.Path.{refl, sym, ap}
 use Rattle.std.proofs.Common.{◌∙◌, eqb-true}
 use native.Mathlib.Omega.{arith}
 use Rattle.std.proofs.Math.IntN.{+ℤ_assoc, +ℤ_comm, +ℤ_idl, +ℤ_idr, +ℤ_invr, +ℤ-neg_ℤ_cancel}
-use Rattle.theory.specs.Basics.{Bool, true, false, not, cond, List, [], ◌∷◌, map, ℕ, suc, ◌+◌, ℤ, pos, negsuc}
-use Rattle.theory.specs.Basics.{◌+ℤ◌, ◌-ℤ◌, nat_abs, ◌=?◌, keep, total, sum, Each}
+use Rattle.theory.specs.Basics.{Bool, true, false, not, cond, List, [], map, ℕ, suc, ℤ, pos, negsuc}
+use Rattle.theory.specs.Basics.{nat_abs, ◌=?◌, keep, total, sum, Each}
 use Rattle.theory.proofs.Basics.Laws.{both}
 use Rattle.theory.proofs.Basics.Keep.{each-kept, total-keep}
 use Rattle.theory.proofs.Basics.Integers.{swap-back}

@@ -5,11 +5,11 @@
 --   gathered_slip s n          the slip s in the gathered mode, with n lines
 --   joint                     the lines of a plain page, gathered; slip_after and lent_after, slip and lent then
 --   Gathered ..               what can be said of these
-use Rattle.std.specs.Prelude.{◌≡◌, ◌≤◌, ◌<◌}
+use Rattle.std.specs.Prelude.{◌≡◌, ◌≤◌, ◌<◌, ◌∷◌, ◌+ℤ◌}
 use Rattle.std.proofs.Math.Path.{refl}
 use Rattle.std.proofs.Common.{sym, ◌∙◌, ap, ap₂, arith, length-take-le, get_or-take}
 use Rattle.std.proofs.lemmas.List.{length-map}
-use Rattle.theory.specs.Basics.{List, [], ◌∷◌, map, length, get_or, take, ℕ, ℤ, pos, ◌+ℤ◌, every, total, Each}
+use Rattle.theory.specs.Basics.{List, [], map, length, get_or, take, ℕ, ℤ, pos, every, total, Each}
 use Rattle.theory.proofs.Basics.Laws.{both}
 use Rattle.theory.specs.Refusals.{first_of}
 use Rattle.pages.specs.Line.{Line}

@@ -1,8 +1,8 @@
 -- Lines stay sound when they are gathered (document 02, P7): what they count in all does not grow, since equal lines
 -- have one degree, and |a + b| is at most |a| + |b|.
-use Rattle.std.specs.Prelude.{◌≤◌}
+use Rattle.std.specs.Prelude.{◌≤◌, ◌+◌}
 use Rattle.std.proofs.Common.{le_refl, mul-le-mul, arith}
-use Rattle.theory.specs.Basics.{List, ℕ, ◌+◌, Each}
+use Rattle.theory.specs.Basics.{List, ℕ, Each}
 use Rattle.theory.specs.Bounds.{factorial}
 use Rattle.theory.proofs.Bounds.Laws.{abs-add}
 use Rattle.pages.specs.Line.{Line, line_degree}

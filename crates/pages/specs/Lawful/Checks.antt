@@ -1,7 +1,7 @@
 -- The checks of slip and page in a mode: none has the number 0, and what it tells that none refuses.
-use Rattle.std.specs.Prelude.{◌≡◌, refl}
+use Rattle.std.specs.Prelude.{◌≡◌, refl, ◌∷◌, ◌++◌}
 use Rattle.std.proofs.Common.{◌∙◌}
-use Rattle.theory.specs.Basics.{List, [], ◌∷◌, ◌++◌, ℕ, ◌<?◌, Each}
+use Rattle.theory.specs.Basics.{List, [], ℕ}
 use Rattle.theory.proofs.Basics.Keep.{every-each, each-every}
 use Rattle.theory.proofs.Basics.Laws.{each_append}
 use Rattle.theory.specs.Refusals.{Check, first_of, no-7}

@@ -1,12 +1,12 @@
 -- The laws of the gathered mode: a line is read from its word and its coefficient as it was written, whatever the
 -- coefficient is, and lines that are gathered stay so.
 --   Roomy l   the line l can be written down: its class word has room beside its shape word
-use Rattle.std.specs.Prelude.{◌≡◌, refl, ◌≤◌, ◌<◌}
+use Rattle.std.specs.Prelude.{◌≡◌, refl, ◌≤◌, ◌<◌, ◌∷◌, ◌++◌, ◌+◌, ◌-◌, ◌*◌, ◌/◌, ◌%◌, ◌^◌}
 use Rattle.std.proofs.Common.{sym, ◌∙◌, ap, ap₂, arith, ltb-false, le-ltb, eqb-true, eq-eqb, length-append, length-take-le, take_at, drop_at}
 use Rattle.std.proofs.lemmas.Bool.{not-false}
 use Rattle.std.proofs.lemmas.List.{length-map, length-replicate}
-use Rattle.theory.specs.Basics.{true, List, [], ◌∷◌, ◌++◌, map, length, get_or, take, drop, replicate, ℕ, zero, suc, ◌+◌}
-use Rattle.theory.specs.Basics.{◌-◌, ◌*◌, ◌/◌, ◌%◌, ◌^◌, ℤ, pos, nat_abs, ◌=?◌, every, Each}
+use Rattle.theory.specs.Basics.{true, List, [], map, length, get_or, take, drop, replicate, ℕ, zero, suc}
+use Rattle.theory.specs.Basics.{ℤ, pos, nat_abs, ◌=?◌, every, Each}
 use Rattle.theory.proofs.Basics.Laws.{both}
 use Rattle.theory.proofs.Basics.Keep.{each-others, every-each, each-every}
 use Rattle.theory.specs.Limits.{page_limit}

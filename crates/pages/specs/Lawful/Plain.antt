@@ -1,8 +1,8 @@
 -- The laws of the plain mode.
-use Rattle.std.specs.Prelude.{◌≡◌, refl, ◌≤◌}
-use Rattle.std.proofs.Common.{◌∙◌, ap, le_refl, arith, ltb-false, le-ltb, length-take-le}
+use Rattle.std.specs.Prelude.{refl, ◌∷◌, ◌++◌, ◌-◌}
+use Rattle.std.proofs.Common.{◌∙◌, ap, arith, ltb-false, le-ltb, length-take-le}
 use Rattle.std.proofs.lemmas.List.{length-map}
-use Rattle.theory.specs.Basics.{[], ◌∷◌, ◌++◌, map, length, take, drop, replicate, ℕ, ◌-◌}
+use Rattle.theory.specs.Basics.{[], map, length, take, drop, replicate, ℕ}
 use Rattle.theory.proofs.Basics.Laws.{each_append, sum-append}
 use Rattle.theory.proofs.Basics.Keep.{total-append}
 use Rattle.theory.specs.Limits.{page_limit}

@@ -2,12 +2,12 @@
 -- sign multiplied in, its class without one such cycle").
 --   Has cycle l          the class of the line l has such a cycle
 --   HookLine cycle l y   what is true of each line y that a hook of length cycle makes
-use Rattle.std.specs.Prelude.{◌≡◌, refl, ◌≤◌}
+use Rattle.std.specs.Prelude.{◌≡◌, refl, ◌≤◌, ◌+◌, ◌-◌, ◌*◌, ◌*ℤ◌}
 use Rattle.std.proofs.Math.Path.{sym, ap}
 use Rattle.std.proofs.Common.{◌∙◌}
 use Rattle.std.proofs.lemmas.Simd.{map-map}
 use Rattle.std.proofs.lemmas.List.{length-map}
-use Rattle.theory.specs.Basics.{true, List, map, length, ℕ, ◌+◌, ◌-◌, ◌*◌, total, sum, ◌*ℤ◌, nat_abs, signed}
+use Rattle.theory.specs.Basics.{true, List, map, length, ℕ, total, sum, nat_abs, signed}
 use Rattle.theory.specs.Basics.{Each}
 use Rattle.theory.proofs.Basics.Laws.{each_map, sum_same, sum-map}
 use Rattle.theory.proofs.Basics.Integers.Products.{times-sums, times-signed}

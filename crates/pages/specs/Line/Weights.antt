@@ -1,8 +1,8 @@
 -- Sums over lines, or over anything: no larger in size than what is counted for each.
 --   weight_of l   the weight of a line
-use Rattle.std.specs.Prelude.{◌≡◌, ◌≤◌}
+use Rattle.std.specs.Prelude.{◌≡◌, ◌≤◌, ◌∷◌, ◌*◌}
 use Rattle.std.proofs.Common.{mul-zero, arith}
-use Rattle.theory.specs.Basics.{List, [], ◌∷◌, map, ℕ, ◌*◌, ℤ, nat_abs, total, sum, Each}
+use Rattle.theory.specs.Basics.{List, [], map, ℕ, ℤ, nat_abs, total, sum, Each}
 use Rattle.theory.proofs.Bounds.Laws.{abs-add}
 use Rattle.pages.specs.Line.{Line}
 

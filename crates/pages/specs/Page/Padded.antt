@@ -1,8 +1,8 @@
 -- A page of lines with zeros after them: how long it is, and what waits on it.
-use Rattle.std.specs.Prelude.{◌≡◌, refl, ◌≤◌}
+use Rattle.std.specs.Prelude.{◌≡◌, refl, ◌≤◌, ◌-◌}
 use Rattle.std.proofs.Common.{◌∙◌, ap, arith, length-append, take_at, drop_at}
 use Rattle.std.proofs.lemmas.List.{length-replicate, length-map}
-use Rattle.theory.specs.Basics.{List, map, length, take, drop, replicate, ℕ, zero, suc, ◌-◌, Each}
+use Rattle.theory.specs.Basics.{List, map, length, take, drop, replicate, ℕ, zero, suc, Each}
 use Rattle.pages.specs.Line.{Line}
 use Rattle.pages.specs.Page.{line_of, word_of, padded}
 use Rattle.pages.specs.Page.Words.{Plain, lines-read}

@@ -1,10 +1,9 @@
 -- A page's word is read as a line and written from one, there and back.
 --   Plain l   the line l can be written down as a word: its weight is 1 or -1, its words have room
-use Rattle.std.specs.Prelude.{◌≡◌, refl, ◌<◌}
+use Rattle.std.specs.Prelude.{◌≡◌, refl, ◌<◌, ◌∷◌, ◌+◌, ◌*◌, ◌/◌, ◌%◌, ◌^◌}
 use Rattle.std.proofs.Common.{◌∙◌, ap, ap₂, arith, eq-eqb, ne_eqb, eqb-true}
 use Rattle.std.proofs.lemmas.Bool.{eqb-false}
-use Rattle.theory.specs.Basics.{Bool, true, false, List, [], ◌∷◌, map, take, drop, get_or, ℕ, zero, suc, ◌+◌, ◌*◌, ◌/◌}
-use Rattle.theory.specs.Basics.{◌%◌, ◌^◌}
+use Rattle.theory.specs.Basics.{Bool, true, false, List, [], map, take, drop, get_or, ℕ, zero, suc}
 use Rattle.theory.specs.Basics.{ℤ, pos, negsuc, nat_abs, Each}
 use Rattle.theory.specs.Digits.{bit}
 use Rattle.theory.proofs.Bounds.Laws.{abs-signed}

@@ -8,8 +8,8 @@
 --   Known f x              the number x is right about the word x / 32: f makes x % 32 of it
 --   AllKnown b known       all that is remembered is right about words of classes where b, else of shapes
 --   Knows shapes classes   all that is remembered of shape words and of class words is right
-use Rattle.std.specs.Prelude.{◌≡◌, min}
-use Rattle.theory.specs.Basics.{Bool, true, false, cond, ◌&&◌, List, Each, ℕ, ◌-◌, ◌*◌, ◌/◌, ◌%◌, nat_abs, ◌≤?◌}
+use Rattle.std.specs.Prelude.{◌≡◌, min, ◌&&◌, ◌-◌, ◌*◌, ◌/◌, ◌%◌}
+use Rattle.theory.specs.Basics.{Bool, true, false, cond, List, Each, ℕ, nat_abs, ◌≤?◌}
 use Rattle.theory.specs.ShapeWord.{good_shape}
 use Rattle.theory.specs.Bounds.{factorial, S}
 use Rattle.theory.specs.Limits.{degree_limit}

@@ -10,9 +10,9 @@
 --   Walk xs links w p            p is 0, or one more than the index of a word on the chain of w, from where links lead
 --                                back along it
 --   Room xs heads links          there is room for the chains of the words xs, and no word is on one yet
-use Rattle.std.specs.Prelude.{◌≡◌, ◌≤◌, ◌<◌}
-use Rattle.theory.specs.Basics.{Bool, true, not, cond, ◌&&◌, List, [], ◌∷◌, length, get_or, Each, every}
-use Rattle.theory.specs.Basics.{ℕ, zero, suc, ◌%◌, ◌=?◌, ◌<?◌}
+use Rattle.std.specs.Prelude.{◌≡◌, ◌≤◌, ◌<◌, ◌&&◌, ◌∷◌, ◌%◌}
+use Rattle.theory.specs.Basics.{Bool, true, not, cond, List, [], length, get_or, Each, every}
+use Rattle.theory.specs.Basics.{ℕ, zero, suc, ◌=?◌, ◌<?◌}
 use Rattle.theory.specs.Limits.{page_limit}
 
 unfoldable pub all_different : List ℕ → Bool

@@ -4,7 +4,8 @@
 --   more_cost limit x z                 what its coefficient z asks for besides d! once
 --   suffices_besides limit value xs zs  no word has its sign digit set, no coefficient is 0, and the value suffices for
 --                                      what the coefficients ask for besides, line after line
-use Rattle.theory.specs.Basics.{Bool, true, false, not, ◌&&◌, List, [], ◌∷◌, ℕ, ◌-◌, ◌*◌, ◌^◌, ℤ, nat_abs, ◌=?◌, ◌≤?◌}
+use Rattle.std.specs.Prelude.{◌&&◌, ◌∷◌, ◌-◌, ◌*◌, ◌^◌}
+use Rattle.theory.specs.Basics.{Bool, true, false, not, List, [], ℕ, ℤ, nat_abs, ◌=?◌, ◌≤?◌}
 use Rattle.theory.specs.Basics.{◌<?◌, every}
 use Rattle.theory.specs.Bounds.{factorial}
 use Rattle.pages.specs.Line.{Line}

@@ -3,11 +3,11 @@
 --   SoundLine n l                 sound_line n l, as a record; SoundLines and SoundIn, of lines and of what is lent
 --   asked slip                    the degree of the shape that the slip asks for: the n of document 01
 --   values lines, spans lines     what the lines count in all
-use Rattle.std.specs.Prelude.{◌≡◌, refl, ◌≤◌}
+use Rattle.std.specs.Prelude.{◌≡◌, refl, ◌≤◌, ◌∷◌, ◌+◌}
 use Rattle.std.proofs.Common.{le_trans}
 use Rattle.std.specs.Int.Signed.{non_neg}
 use borrow.Author.Tests.{leb-true, eqb-true, le-leb, eq-eqb, ltb-false, not-false}
-use Rattle.theory.specs.Basics.{true, List, [], ◌∷◌, map, length, drop, ℕ, ◌+◌, nat_abs, ◌=?◌, ◌≤?◌, every, total}
+use Rattle.theory.specs.Basics.{true, List, [], map, length, drop, ℕ, nat_abs, ◌=?◌, ◌≤?◌, every, total}
 use Rattle.theory.specs.Basics.{Each}
 use Rattle.theory.proofs.Basics.Laws.{both, each_same}
 use Rattle.theory.proofs.Basics.Keep.{every-each, each-every}

@@ -1,7 +1,8 @@
 -- Demand 3 at every point of a session, not only at its end: a run splits wherever its calls are cut in two
 -- (Parts.antt). It stands at one place there only (Requests.antt: `one-session`).
 --   Halfway ..   where a session stands between two of its calls: so far it is a session, of which demand 3 is true
-use Rattle.theory.specs.Basics.{List, ◌++◌, ℕ}
+use Rattle.std.specs.Prelude.{◌++◌}
+use Rattle.theory.specs.Basics.{List, ℕ}
 use Rattle.theory.specs.Limits.{degree_limit}
 use Rattle.sessiontext.specs.SessionText.{Form}
 use Rattle.sessiontext.specs.SessionText.Faithful.{Faithful}

@@ -2,12 +2,12 @@
 -- slip and what was lent, so that this is what the load gives, and the steps that it gives are those that counted then.
 --   PutBack ..   a load of the text, made at `now` and answered a with y left, is accepted, belongs to the run and puts
 --                it back at `then`: slip, what is lent and count are those of then, and what was saved stays saved
-use Rattle.std.specs.Prelude.{◌≡◌}
+use Rattle.std.specs.Prelude.{◌≡◌, ◌+ℤ◌}
 use Rattle.std.proofs.Math.Path.{sym, ap}
 use Rattle.std.proofs.Common.{◌∙◌}
 use mathlib.Core.List.{cons-ne-nil}
 use Rattle.std.proofs.Math.IntN.{+ℤ_idl}
-use Rattle.theory.specs.Basics.{List, get_or, take, ℕ, pos, ◌+ℤ◌, nat_abs}
+use Rattle.theory.specs.Basics.{List, get_or, take, ℕ, pos, nat_abs}
 use Rattle.theory.proofs.Basics.Laws.{same_self}
 use Rattle.theory.specs.Limits.{degree_limit}
 use Rattle.theory.specs.Refusals.{first_of}

@@ -2,10 +2,10 @@
 --   is_step call           it is an accepted commit; is_load call, an accepted load
 --   accepted_steps calls   how many of the calls are accepted commits
 --   Unloaded calls        none of them is an accepted load
-use Rattle.std.specs.Prelude.{◌≡◌, refl}
+use Rattle.std.specs.Prelude.{◌≡◌, refl, ◌∷◌, ◌+◌}
 use Rattle.std.proofs.Common.{arith}
 use Rattle.std.proofs.lemmas.Bool.{not-true}
-use Rattle.theory.specs.Basics.{Bool, true, false, not, cond, List, [], ◌∷◌, length, ℕ, ◌+◌, ◌=?◌, keep, count, every}
+use Rattle.theory.specs.Basics.{Bool, true, false, not, cond, List, [], length, ℕ, ◌=?◌, keep, count, every}
 use Rattle.theory.proofs.Basics.Laws.{both}
 use Rattle.sessiontext.specs.SessionText.{Form}
 use Rattle.sessionruns.specs.Run.{Call, opened, previewed, committed, watched, saved, loaded}

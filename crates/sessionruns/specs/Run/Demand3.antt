@@ -2,11 +2,11 @@
 --   PutsBack     a text whose save was accepted, anywhere in these calls, and that is loaded at `end`, puts the session
 --                back at that save (Back.antt: `PutBack`)
 --   Demand3      of a session that opened a shape on a class on x, made these calls and stands at `end`
-use Rattle.std.specs.Prelude.{◌≡◌, refl, ◌≤◌}
+use Rattle.std.specs.Prelude.{◌≡◌, refl, ◌≤◌, ◌∷◌, ◌++◌, ◌+ℤ◌}
 use Rattle.std.proofs.Math.Path.{sym, ap}
 use Rattle.std.proofs.Common.{◌∙◌, arith}
 use Rattle.std.proofs.Math.IntN.{+ℤ_idr}
-use Rattle.theory.specs.Basics.{true, List, [], ◌∷◌, ◌++◌, length, take, ℕ, pos, ◌+ℤ◌, sum}
+use Rattle.theory.specs.Basics.{true, List, [], length, take, ℕ, pos, sum}
 use Rattle.theory.specs.Limits.{degree_limit}
 use Rattle.theory.specs.Partition.{degree}
 use Rattle.theory.specs.ShapeWord.{shape_of}

@@ -1,10 +1,10 @@
 -- What every call of a run keeps: a commit by its own laws, a load since its text is that of a session which kept it.
 --   Stored s x save   the text was saved of a slip and of what was lent that s and x led to, with as many steps
 --   Stands s x now    s and x led to the slip of `now` and what is lent there, and to those of whatever was saved
-use Rattle.std.specs.Prelude.{◌≡◌, refl, ◌≤◌}
+use Rattle.std.specs.Prelude.{◌≡◌, refl, ◌≤◌, ◌∷◌}
 use Rattle.std.proofs.Common.{sym, ◌∙◌, ap, arith, eqb-true}
 use Rattle.std.proofs.lemmas.Bool.{eqb-false}
-use Rattle.theory.specs.Basics.{Bool, true, false, cond, List, [], ◌∷◌, map, length, get_or, take, ℕ, ◌=?◌, keep, same}
+use Rattle.theory.specs.Basics.{Bool, true, false, cond, List, [], map, length, get_or, take, ℕ, ◌=?◌, keep, same}
 use Rattle.theory.specs.Basics.{Each}
 use Rattle.theory.proofs.Basics.Laws.{same_lists}
 use Rattle.theory.specs.Limits.{degree_limit}

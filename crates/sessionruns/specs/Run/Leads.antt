@@ -1,12 +1,12 @@
 -- What a commit keeps, accepted or refused, on any sound slip and page, whoever wrote it, in any mode.
 --   Leads m limit s x k t y   with k steps that count, slip s and x, which is lent, become the sound slip t and y,
 --                             worth the same, of the same shape and class, on a page of the same length
-use Rattle.std.specs.Prelude.{◌≡◌}
+use Rattle.std.specs.Prelude.{◌≡◌, ◌+◌, ◌+ℤ◌}
 use Rattle.std.proofs.Math.Path.{refl}
 use Rattle.std.proofs.Common.{sym, ◌∙◌, ap}
 use Rattle.std.proofs.Math.Dec.{eqb-suc-zero}
 use Rattle.std.proofs.Math.IntN.{+ℤ_assoc, +ℤ_idr}
-use Rattle.theory.specs.Basics.{cond, List, length, ℕ, zero, suc, ◌+◌, pos, ◌+ℤ◌, ◌=?◌}
+use Rattle.theory.specs.Basics.{cond, List, length, ℕ, zero, suc, pos, ◌=?◌}
 use Rattle.theory.specs.Limits.{degree_limit}
 use Rattle.theory.specs.Refusals.{first_of}
 use Rattle.words.specs.Answers.{Outcome}
@@ -19,7 +19,7 @@ use Rattle.pages.specs.Mode.{Mode, waiting_in}
 use Rattle.pages.specs.Sound.Laws.{SoundIn}
 use Rattle.pages.specs.Lawful.{Lawful}
 use Rattle.sessions.specs.Step.{next_lines_in, next_slip_in, commit_checks_in, finished_in, commit_in}
-use Rattle.sessions.specs.Step.Laws.{accepted, next-sound-in, next-waits, next-worth-in}
+use Rattle.sessions.proofs.Step.Laws.{accepted, next-sound-in, next-waits, next-worth-in}
 use Rattle.sessiontext.specs.declared.Loaded.{Loaded}
 use Rattle.sessiontext.specs.SessionText.{Form}
 use Rattle.sessiontext.specs.SessionText.Faithful.{Faithful}

@@ -2,11 +2,11 @@
 -- struck, and what was saved stays saved.
 --   Between now before later end   where the run stands between the calls: `before` leads there, and `later` to `end`
 --   Known text saves               the text was saved
-use Rattle.std.specs.Prelude.{◌≡◌, refl}
+use Rattle.std.specs.Prelude.{◌≡◌, refl, ◌∷◌, ◌++◌}
 use Rattle.std.proofs.Math.Path.{sym}
 use Rattle.std.proofs.Common.{◌∙◌}
 use mathlib.Core.List.{cons-ne-nil}
-use Rattle.theory.specs.Basics.{true, false, not, cond, List, [], ◌∷◌, ◌++◌, map, take, ℕ, ◌=?◌, keep, same}
+use Rattle.theory.specs.Basics.{true, false, not, cond, List, [], map, take, ℕ, ◌=?◌, keep, same}
 use Rattle.words.specs.Answers.Laws.{one-outcome}
 use Rattle.text.specs.Text.{Text}
 use Rattle.sessions.specs.Opening.{opening_in}

@@ -3,10 +3,10 @@
 --   Request            a call without its answer; request call, what a call asked; requests calls, what all asked
 --   answered s x r     the call that asks r of slip s and what is lent, x, with the answer that is promised
 --   answers now rs     the calls that ask rs, one after the other
-use Rattle.std.specs.Prelude.{◌≡◌}
+use Rattle.std.specs.Prelude.{◌≡◌, ◌∷◌}
 use Rattle.std.proofs.Math.Path.{refl, ap, ap₂}
 use Rattle.std.proofs.Common.{sym, ◌∙◌}
-use Rattle.theory.specs.Basics.{List, [], ◌∷◌, map, ℕ}
+use Rattle.theory.specs.Basics.{List, [], map, ℕ}
 use Rattle.text.specs.Text.{Text}
 use Rattle.pages.specs.declared.Slip.{Slip}
 use Rattle.sessions.specs.Opening.{opening_in}

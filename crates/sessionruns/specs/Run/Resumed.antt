@@ -2,9 +2,9 @@
 --   Resumed ..    the slip and the lines that the load gave are those of the save; from there on the sum is the
 --                 character that was asked for, and steps counts on from the count at the save
 --   foreign-run   a run on what a load of any accepted text gives keeps its worth
-use Rattle.std.specs.Prelude.{◌≡◌, ◌<◌}
+use Rattle.std.specs.Prelude.{◌≡◌, ◌<◌, ◌+ℤ◌}
 use Rattle.std.proofs.Common.{sym, ◌∙◌, ap, arith}
-use Rattle.theory.specs.Basics.{List, take, ℕ, pos, ◌+ℤ◌}
+use Rattle.theory.specs.Basics.{List, take, ℕ, pos}
 use Rattle.theory.specs.Digits.{width}
 use Rattle.theory.specs.Limits.{degree_limit}
 use Rattle.theory.specs.ShapeWord.{shape_of}

@@ -1,12 +1,13 @@
 -- `sessions::commit` meets its contract: each return is the first check that applies, or the line exchanged
 -- for its hook lines.
+use Rattle.std.specs.Prelude.{◌∷◌}
 use mathlib.Core.Path.{◌≡◌, refl, sym, ◌∙◌}
 use native.Mathlib.Omega.{arith}
 use borrow.Author.Rules.{rules}
 use Prim.Native.Nat.{ℕ, ◌≤◌, ◌<◌, ◌^◌}
 use lib.ListN.{get_or}
 use lib.Seq.{length-take-le}
-use Rattle.theory.specs.Basics.{not, List, [], ◌∷◌}
+use Rattle.theory.specs.Basics.{not, List, []}
 use Rattle.theory.specs.Refusals.{first_of}
 use Rattle.theory.specs.Limits.{degree_limit}
 use Rattle.theory.specs.Bounds.Laws.{largest_limit}

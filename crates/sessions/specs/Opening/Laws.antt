@@ -4,13 +4,13 @@
 --   behind                       the checks behind those of the words
 --   First law s c settled lines  what is true of what an opening settles and of the lines that it writes
 --   Opened law limit s c x t y   what is true of the slip t of an accepted opening, and of what it leaves, y
-use Rattle.std.specs.Prelude.{◌≡◌, ◌≤◌}
+use Rattle.std.specs.Prelude.{◌≡◌, ◌≤◌, ◌∷◌, ◌++◌, ◌+◌, ◌+ℤ◌}
 use Rattle.std.proofs.Math.Path.{refl, sym, ap}
 use Rattle.std.proofs.Common.{◌∙◌, arith, ltb-false, eq-eqb, ne_eqb}
 use Rattle.std.proofs.Math.Nat.{le_refl}
 use Rattle.std.proofs.Math.Decide.{ℕ_discrete}
 use Rattle.std.proofs.Math.IntN.{+ℤ_idl, +ℤ_idr, *ℤ_comm}
-use Rattle.theory.specs.Basics.{true, List, [], ◌∷◌, ◌++◌, length, ℕ, ◌+◌, ℤ, pos, ◌+ℤ◌, nat_abs, sum, Each}
+use Rattle.theory.specs.Basics.{true, List, [], length, ℕ, ℤ, pos, nat_abs, sum, Each}
 use Rattle.theory.proofs.Basics.Integers.Products.{times-one}
 use Rattle.theory.specs.Partition.{Parts, degree}
 use Rattle.theory.specs.Digits.{digits, width}

@@ -3,8 +3,8 @@
 --   taken_out p i k       others p i k, then 0 in the word that is freed, and what follows
 --   Exchanges p i k xs   line i is one of k lines, other words are 0, and without it there is room for the words xs
 --   exchanged p i k xs   others p i k and xs, and zeros after them
-use Rattle.std.specs.Prelude.{◌≡◌, ◌<◌, ◌≤◌}
-use Rattle.theory.specs.Basics.{List, ◌∷◌, ◌++◌, length, take, drop, replicate, ℕ, suc, ◌+◌, ◌-◌, Each}
+use Rattle.std.specs.Prelude.{◌≡◌, ◌<◌, ◌≤◌, ◌∷◌, ◌++◌, ◌+◌, ◌-◌}
+use Rattle.theory.specs.Basics.{List, length, take, drop, replicate, ℕ, suc, Each}
 
 abbrev pub others : List ℕ → ℕ → ℕ → List ℕ
 others page line lines = take line (take lines page) ++ drop (suc line) (take lines page)

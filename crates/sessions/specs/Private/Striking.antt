@@ -4,8 +4,8 @@
 --   Strikes ..            a sound line l is struck by a cycle of its class, `class` is the class word without it, and
 --                         the strip has room for the hook lines that wait
 --   stripped ..           what comes of it: how many hook lines wait, what is settled, and their words on the strip
-use Rattle.std.specs.Prelude.{◌≡◌, ◌≤◌}
-use Rattle.theory.specs.Basics.{Bool, not, cond, List, ◌++◌, map, length, drop, ℕ, ℤ, ◌=?◌, sum}
+use Rattle.std.specs.Prelude.{◌≡◌, ◌≤◌, ◌++◌}
+use Rattle.theory.specs.Basics.{Bool, not, cond, List, map, length, drop, ℕ, ℤ, ◌=?◌, sum}
 use Rattle.theory.specs.Partition.{times, without}
 use Rattle.theory.specs.ClassWord.{class_word, class_of}
 use Rattle.pages.specs.Line.{Line}

@@ -1,10 +1,11 @@
 -- `sessiontext::has_room` meets its contract: so many bytes are enough for any text of so many lines, else the
 -- text's length is that of the first six lines and of the others.
+use Rattle.std.specs.Prelude.{◌+◌, ◌++◌}
 use mathlib.Core.Path.{◌≡◌, sym, ap}
 use native.Mathlib.Omega.{arith}
 use lib.ListN.{length-map, length-append}
 use borrow.Author.Tests.{le-leb}
-use Rattle.theory.specs.Basics.{map, length, joined, ◌+◌, ◌++◌, ◌≤?◌}
+use Rattle.theory.specs.Basics.{map, length, joined, ◌≤?◌}
 use Rattle.pages.specs.Page.{line_of}
 use Rattle.sessiontext.specs.SessionText.{plain_form, line_text, session_text}
 use Rattle.sessiontext.specs.SessionText.Laws.{asked_text, reached_text, session-parts}

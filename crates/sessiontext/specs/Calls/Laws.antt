@@ -8,15 +8,15 @@
 --   loaded-text        a text that is loaded is the text of the session that it gives, which is sound
 --   load-then-save     and is what a save gives of it
 --   refused-load       a load that is refused leaves what it was lent
-use Rattle.std.specs.Prelude.{◌≡◌, ◌≤◌, ◌<◌}
+use Rattle.std.specs.Prelude.{◌≡◌, ◌≤◌, ◌<◌, ◌∷◌, ◌++◌, ◌+◌, ◌*◌}
 use Rattle.std.proofs.Math.Path.{refl, sym}
 use Rattle.std.proofs.Common.{◌∙◌, ap, le_refl, arith}
 use Rattle.std.proofs.Math.Nat.{mul-le-mul}
 use Rattle.std.proofs.lemmas.List.{length-map}
 use Rattle.std.proofs.Math.Seq.{take-append_seam}
 use borrow.Author.Tests.{ltb-false, le-ltb, eqb-true, not-false}
-use Rattle.theory.specs.Basics.{Bool, true, false, ◌&&◌, cond, List, [], ◌∷◌, ◌++◌, length, take, ℕ, ◌+◌, ◌*◌}
-use Rattle.theory.specs.Basics.{zero, suc, ◌=?◌, ◌<?◌, Each}
+use Rattle.theory.specs.Basics.{Bool, true, false, cond, List, [], length, take, ℕ}
+use Rattle.theory.specs.Basics.{zero, suc, ◌=?◌, Each}
 use Rattle.theory.proofs.Basics.Laws.{both, each_map}
 use Rattle.theory.specs.Digits.{width}
 use Rattle.theory.specs.Limits.{degree_limit, page_limit}
@@ -30,7 +30,7 @@ use Rattle.pages.specs.declared.Slip.{Slip}
 use Rattle.pages.specs.Page.{blank}
 use Rattle.pages.specs.Mode.{waiting_in}
 use Rattle.pages.specs.Sound.{sound_with, sound_lines, sound_in, page_checks_in}
-use Rattle.pages.specs.Sound.Laws.{SoundIn, SoundLines, is-sound, sound-is, are-sound, sound-are}
+use Rattle.pages.specs.Sound.Laws.{SoundIn, SoundLines, sound-is, are-sound, sound-are}
 use Rattle.pages.specs.Lawful.Checks.{numbered-page, passed-page}
 use Rattle.pages.specs.Lawful.Put.{waiting-put, sound-put}
 use Rattle.sessiontext.specs.SessionText.{Form, session_text_by}

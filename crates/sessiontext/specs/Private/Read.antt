@@ -9,9 +9,9 @@
 --   ReadNext text at r     whether the text's line at `at` is of its form, and then its word, and where it ends
 --   ReadLines ts b r       the first of the lines ts at fault, and then whether the budget b suffices for them
 --   read_checks ..          the checks of the first six lines by what was read off them; ReadHead, what was read in all
-use Rattle.std.specs.Prelude.{◌≡◌, ◌≤◌}
-use Rattle.theory.specs.Basics.{Bool, true, false, not, ◌&&◌, cond, List, [], ◌∷◌, map, ℕ, ◌+◌, length, take, drop}
-use Rattle.theory.specs.Basics.{◌^◌, pos, neg_ℤ, every, ◌=?◌}
+use Rattle.std.specs.Prelude.{◌≡◌, ◌≤◌, ◌&&◌, ◌∷◌, ◌+◌, ◌^◌}
+use Rattle.theory.specs.Basics.{Bool, true, false, not, cond, List, [], map, ℕ, length, take, drop}
+use Rattle.theory.specs.Basics.{pos, neg_ℤ, every, ◌=?◌}
 use Rattle.theory.specs.Partition.{Parts, degree}
 use Rattle.theory.specs.ShapeWord.{shape_word}
 use Rattle.theory.specs.ClassWord.{class_word}

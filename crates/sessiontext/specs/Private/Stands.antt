@@ -3,8 +3,8 @@
 --   PartStands ..          so does the part that was read; ListStands, the list, with a byte behind it; WordStands, the
 --                          list of a word
 --   LineStands text at r   a line that was read is the text's line at `at`, of its form
-use Rattle.std.specs.Prelude.{◌≡◌, ◌≤◌}
-use Rattle.theory.specs.Basics.{true, List, [], ◌∷◌, ◌++◌, ℕ, ◌+◌, length, take, drop}
+use Rattle.std.specs.Prelude.{◌≡◌, ◌≤◌, ◌∷◌, ◌++◌, ◌+◌}
+use Rattle.theory.specs.Basics.{true, List, [], ℕ, length, take, drop}
 use Rattle.theory.specs.Partition.{Parts}
 use Rattle.theory.specs.Limits.{degree_limit}
 use Rattle.text.specs.Text.{Text, decimal, list_text}

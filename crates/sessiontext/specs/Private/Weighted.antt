@@ -6,9 +6,9 @@
 --   PutDown ts page column .. what the lines ts are read as stands at the front of a page and of a column
 --   fronted_faults text        the checks of the first seven lines; ReadFronted text r, what was read off them
 --   AllFormed text start slip the lines of the text from a place on are of their form, and as many as the slip says
-use Rattle.std.specs.Prelude.{◌≡◌, ◌≤◌}
+use Rattle.std.specs.Prelude.{◌≡◌, ◌≤◌, ◌&&◌, ◌++◌}
 use Rattle.std.proofs.lemmas.List.Edits.{sets}
-use Rattle.theory.specs.Basics.{true, ◌&&◌, List, map, ◌++◌, ℕ, ℤ, length, drop, Each}
+use Rattle.theory.specs.Basics.{true, List, map, ℕ, ℤ, length, drop, Each}
 use Rattle.theory.specs.Limits.{degree_limit, page_limit}
 use Rattle.theory.specs.Refusals.{Check, first_of}
 use Rattle.text.specs.Text.{Text}

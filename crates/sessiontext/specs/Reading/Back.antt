@@ -1,12 +1,12 @@
 -- The text of a session is read as that session, and none of its lines is at fault.
-use Rattle.std.specs.Prelude.{◌≡◌, ◌<◌}
+use Rattle.std.specs.Prelude.{◌≡◌, ◌<◌, ◌∷◌, ◌++◌, ◌^◌}
 use Rattle.std.proofs.Math.Path.{refl, ap}
 use Rattle.std.proofs.Common.{sym, ◌∙◌, arith}
 use Rattle.std.proofs.lemmas.Bool.{false≢true}
 use Rattle.std.proofs.Math.ListN.{length-map}
 use Rattle.std.proofs.Math.Seq.{drop_at}
 use Rattle.std.specs.Int.Signed.{non_neg}
-use Rattle.theory.specs.Basics.{true, not, List, [], ◌∷◌, ◌++◌, map, length, drop, ℕ, ◌^◌, ℤ, pos, negsuc}
+use Rattle.theory.specs.Basics.{true, not, List, [], map, length, drop, ℕ, ℤ, pos, negsuc}
 use Rattle.theory.specs.Basics.{nat_abs, ◌=?◌, every, Each}
 use Rattle.theory.proofs.Basics.Laws.{each_append, each_map}
 use Rattle.theory.specs.Partition.{Parts, degree}
@@ -18,7 +18,7 @@ use Rattle.theory.specs.ClassWord.{class_of}
 use Rattle.text.specs.Text.{Text, ascii, decimal, integer, list_text, text_line, field}
 use Rattle.textreading.specs.Reading.{lines_of}
 use Rattle.textreading.specs.Reading.Bytes.{Without, without, each-not, decimal-within, integer-within, list-within}
-use Rattle.textreading.specs.Reading.Lines.{Line, text-line, lines-joined}
+use Rattle.textreading.proofs.Reading.Lines.{Line, text-line, lines-joined}
 use Rattle.pages.specs.Line.{Line as Waits}
 use Rattle.pages.specs.declared.Slip.{Slip}
 use Rattle.sessiontext.specs.SessionText.{Form, weighted_text, line_text_by, session_lines_by, session_text_by}

@@ -1,9 +1,9 @@
 -- A text with no line at fault is exactly the text of what it is read as: one session has one text.
-use Rattle.std.specs.Prelude.{◌≡◌, ◌<◌}
+use Rattle.std.specs.Prelude.{◌≡◌, ◌<◌, ◌∷◌, ◌++◌}
 use Rattle.std.proofs.Math.Path.{refl, sym, ap}
 use Rattle.std.proofs.Common.{◌∙◌, ap₂, arith}
 use Rattle.std.proofs.Math.ListN.{length-map}
-use Rattle.theory.specs.Basics.{true, List, [], ◌∷◌, ◌++◌, map, length, get_or, drop, ℕ, suc, joined, Each}
+use Rattle.theory.specs.Basics.{true, List, [], map, length, get_or, drop, ℕ, suc, joined, Each}
 use Rattle.theory.specs.Partition.{Parts}
 use Rattle.theory.specs.Digits.{width}
 use Rattle.theory.specs.ShapeWord.{shape_word, shape_of}
@@ -15,7 +15,7 @@ use Rattle.theory.proofs.ClassWord.Laws.{class-of-word, word_good}
 use Rattle.theory.specs.Refusals.Laws.{Within, WithinClass}
 use Rattle.text.specs.Text.{Text}
 use Rattle.textreading.specs.Reading.{before, lines_of}
-use Rattle.textreading.specs.Reading.Lines.{lines-whole}
+use Rattle.textreading.proofs.Reading.Lines.{lines-whole}
 use Rattle.sessiontext.specs.SessionText.{Form, weighted_text, line_text_by, session_lines_by, session_text_by}
 use Rattle.sessiontext.specs.SessionText.Faithful.{Faithful}
 use Rattle.sessiontext.specs.SessionText.Storable.{StorableLineBy}

@@ -1,10 +1,10 @@
 -- Each line of a session's text is of its form, and is read as what it was written for.
 --   Read ..   what is read off the text of a waiting line of this shape, class and weight
-use Rattle.std.specs.Prelude.{◌≡◌, ◌≤◌, ◌<◌}
+use Rattle.std.specs.Prelude.{◌≡◌, ◌≤◌, ◌<◌, ◌∷◌, ◌++◌, ◌^◌}
 use Rattle.std.proofs.Math.Path.{refl}
 use Rattle.std.proofs.Common.{sym, ◌∙◌, ap, arith}
 use mathlib.Core.List.{append_assoc, append-nil}
-use Rattle.theory.specs.Basics.{true, not, [], ◌∷◌, ◌++◌, ℕ, ◌^◌, ℤ, ◌=?◌, every, Each}
+use Rattle.theory.specs.Basics.{true, not, [], ℕ, ℤ, ◌=?◌, every, Each}
 use Rattle.theory.proofs.Basics.Laws.{each_append}
 use Rattle.theory.specs.Partition.{Parts, is_partition, degree}
 use Rattle.theory.proofs.Partition.Laws.{front}

@@ -6,8 +6,8 @@
 --   WaitingText fa limit t     there are a weight that comes back (the plain form's: 1 or -1) and two partitions within
 --                              the limit whose `line` line t is
 --   Silent name                a name without digits and commas
-use Rattle.std.specs.Prelude.{◌≡◌, ◌≤◌, ◌<◌}
-use Rattle.theory.specs.Basics.{true, not, ℕ, ◌^◌, ℤ, ◌=?◌, every}
+use Rattle.std.specs.Prelude.{◌≡◌, ◌≤◌, ◌<◌, ◌^◌}
+use Rattle.theory.specs.Basics.{true, not, ℕ, ℤ, ◌=?◌, every}
 use Rattle.theory.specs.Partition.{Parts}
 use Rattle.theory.specs.Digits.{width}
 use Rattle.text.specs.Text.{Text, ascii, decimal, integer, list_text, text_line, field}

@@ -2,11 +2,11 @@
 -- (Faithful/Plain, Faithful/Gathered).
 --   Faithful f    the laws of the form f; Kept z, that the weight z comes back; weight_room, how many bytes are enough
 --                 for the text of such a weight
-use Rattle.std.specs.Prelude.{◌≡◌, ◌≤◌, ◌<◌}
-use Rattle.theory.specs.Basics.{true, ◌++◌, length, ℕ, ◌^◌, ℤ, nat_abs, joined, Each}
+use Rattle.std.specs.Prelude.{◌≡◌, ◌≤◌, ◌<◌, ◌++◌, ◌^◌}
+use Rattle.theory.specs.Basics.{true, length, ℕ, ℤ, nat_abs, joined, Each}
 use Rattle.text.specs.Text.{Text, ascii}
 use Rattle.textreading.specs.Reading.Bytes.{Within}
-use Rattle.textreading.specs.Reading.Lines as lines-of-text
+use Rattle.textreading.proofs.Reading.Lines as lines-of-text
 use Rattle.pages.specs.Line.{Line}
 use Rattle.pages.specs.Lawful.{Lawful}
 use Rattle.sessiontext.specs.SessionText.{Form}

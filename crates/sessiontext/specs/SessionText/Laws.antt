@@ -3,10 +3,10 @@
 --   asked_text slip           the lines on what was asked for: degree, shape, class
 --   reached_text slip count   the lines on what was reached: steps, settled, lines
 --   behind_text shape class   what stands behind the weight of a waiting line
-use Rattle.std.specs.Prelude.{◌≡◌, refl}
+use Rattle.std.specs.Prelude.{◌≡◌, refl, ◌∷◌, ◌++◌}
 use Rattle.std.proofs.Common.{◌∙◌, append_assoc}
 use Rattle.std.proofs.Math.Path.{ap}
-use Rattle.theory.specs.Basics.{List, [], ◌∷◌, ◌++◌, map, length, ℕ, nat_abs, joined}
+use Rattle.theory.specs.Basics.{List, [], map, length, ℕ, nat_abs, joined}
 use Rattle.theory.specs.Partition.{Parts, degree}
 use Rattle.theory.specs.ShapeWord.{shape_of}
 use Rattle.theory.specs.ClassWord.{class_of}

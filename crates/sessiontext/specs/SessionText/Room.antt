@@ -4,12 +4,12 @@
 --                    before them
 --   line_room_by fa    the same by any form
 --   weighted_room     the same by the gathered form; fronted_room, for its seven lines before them
-use Rattle.std.specs.Prelude.{◌≡◌, ◌≤◌, ◌<◌}
+use Rattle.std.specs.Prelude.{◌≡◌, ◌≤◌, ◌<◌, ◌∷◌, ◌++◌, ◌+◌, ◌-◌, ◌*◌, ◌^◌}
 use native.Mathlib.Omega.{arith}
 use Rattle.std.proofs.Math.Decide.{dec_le}
 use Rattle.std.proofs.Common.{lt_of_not-le}
 use Rattle.std.proofs.Math.ListN.{length-append}
-use Rattle.theory.specs.Basics.{Bool, true, List, [], ◌∷◌, ◌++◌, map, length, ℕ, ◌+◌, ◌-◌, ◌*◌, ◌^◌}
+use Rattle.theory.specs.Basics.{Bool, true, List, [], map, length, ℕ}
 use Rattle.theory.specs.Basics.{nat_abs, joined}
 use Rattle.theory.proofs.Basics.Laws.{each_same, joined_length}
 use Rattle.theory.specs.Partition.{Parts, is_partition, degree}

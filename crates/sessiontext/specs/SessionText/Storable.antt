@@ -3,10 +3,10 @@
 --   Forward z                      z is not negative, and a signed number of 64 bits holds it
 --   StorableBy fa limit slip lines a slip with such lines, its own words and numbers within their limits
 --   StorableLine, Storable         these by the plain form
-use Rattle.std.specs.Prelude.{◌≡◌, ◌≤◌, ◌<◌}
+use Rattle.std.specs.Prelude.{◌≡◌, ◌≤◌, ◌<◌, ◌∷◌, ◌^◌}
 use Rattle.std.proofs.Common.{arith}
 use Rattle.std.specs.Int.Signed.{non_neg}
-use Rattle.theory.specs.Basics.{true, List, [], ◌∷◌, length, ℕ, ◌^◌, ℤ, nat_abs, Each}
+use Rattle.theory.specs.Basics.{true, List, [], length, ℕ, ℤ, nat_abs, Each}
 use Rattle.theory.proofs.Basics.Laws.{each_same, each_both}
 use Rattle.theory.proofs.ShapeWord.Good.{good-shape}
 use Rattle.theory.proofs.ClassWord.Laws.{good-class}

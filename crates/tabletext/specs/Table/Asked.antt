@@ -1,10 +1,10 @@
 -- What an input asks for: one number of one or two digits, or none. What the program then writes.
 --   asking n   the line that asks for degree n
-use Rattle.std.specs.Prelude.{◌≡◌, refl, ◌⊎◌, ◌≤◌, ◌<◌}
+use Rattle.std.specs.Prelude.{◌≡◌, refl, ◌⊎◌, ◌≤◌, ◌<◌, ◌∷◌}
 use Rattle.std.proofs.Common.{sym, ◌∙◌, ap, inl, inr, ⊎_elim, arith, length-append, length-take}
 use Rattle.std.proofs.Math.Decide.{ℕ_discrete}
 use borrow.Author.Tests.{lt-ltb, le-ltb}
-use Rattle.theory.specs.Basics.{Bool, true, List, [], ◌∷◌, ℕ, zero, suc, length, take}
+use Rattle.theory.specs.Basics.{Bool, true, List, [], ℕ, zero, suc, length, take}
 use Rattle.theory.specs.Basics.{every, down_from, same, Each}
 use Rattle.theory.proofs.Basics.Laws.{both, same_lists}
 use Rattle.theory.proofs.Basics.Keep.{each_keep}

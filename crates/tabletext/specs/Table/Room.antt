@@ -2,13 +2,13 @@
 -- has more than 14 digits, since none exceeds 16! in size. Of the other numbers it is enough that they have at
 -- most 20 digits.
 --   room             how many bytes the program has
-use Rattle.std.specs.Prelude.{◌≡◌, ◌≤◌, ◌<◌}
+use Rattle.std.specs.Prelude.{◌≡◌, ◌≤◌, ◌<◌, ◌∷◌, ◌++◌, ◌+◌, ◌*◌, ◌^◌}
 use Rattle.std.proofs.Math.Path.{refl}
 use Rattle.std.proofs.Common.{sym, ◌∙◌, ap, leb-true, ltb-false}
 use native.Mathlib.Omega.{arith}
 use Rattle.std.proofs.Math.ListN.{length-append}
 use Rattle.std.proofs.lemmas.List.{length-map}
-use Rattle.theory.specs.Basics.{not, List, [], ◌∷◌, ◌++◌, map, ℕ, zero, suc, ◌+◌, ◌*◌, ◌^◌, ℤ, length, get_or}
+use Rattle.theory.specs.Basics.{not, List, [], map, ℕ, zero, suc, ℤ, length, get_or}
 use Rattle.theory.specs.Basics.{◌=?◌, ◌≤?◌, joined, Each}
 use Rattle.theory.proofs.Basics.Laws.{each_same, each_map, each_member, joined_length}
 use Rattle.theory.proofs.Basics.AtPlace.{every-at}

@@ -1,6 +1,6 @@
 -- Document 01's sample of the table program, by computation.
-use Rattle.std.specs.Prelude.{◌≡◌, refl}
-use Rattle.theory.specs.Basics.{true, ◌++◌, same}
+use Rattle.std.specs.Prelude.{◌≡◌, refl, ◌++◌}
+use Rattle.theory.specs.Basics.{true, same}
 use Rattle.theory.proofs.Basics.Laws.{same_lists}
 use Rattle.theory.specs.Bounds.{factorial}
 use Rattle.theory.specs.Character.{character}

@@ -1,12 +1,12 @@
 -- Decimal text: it is the fewest digits that hold the number, and a number below 10^k has at most k of them. What a
 -- sign adds.
-use Rattle.std.specs.Prelude.{◌≡◌, refl, ◌≤◌, ◌<◌}
+use Rattle.std.specs.Prelude.{◌≡◌, refl, ◌≤◌, ◌<◌, ◌∷◌, ◌++◌, ◌+◌, ◌-◌, ◌/◌, ◌%◌, ◌^◌}
 use Rattle.std.proofs.Common.{pow-suc, lt_of_not-le, arith, lt-ltb, le-ltb, ltb-true, length-append}
 use Rattle.std.proofs.Math.Nat.{pow-le-pow_right}
 use Rattle.std.proofs.Math.Decide.{dec_le}
 use Rattle.std.specs.Int.Signed.{lt_z}
 use Rattle.io.specs.Digits.{hex_digit_ascii, last_digits, IsDigitCount}
-use Rattle.theory.specs.Basics.{true, false, [], ◌∷◌, ◌++◌, ℕ, zero, suc, ◌+◌, ◌-◌, ◌/◌, ◌%◌, ◌^◌, length}
+use Rattle.theory.specs.Basics.{true, false, [], ℕ, zero, suc, length}
 use Rattle.theory.specs.Basics.{ℤ, pos, negsuc, nat_abs}
 use Rattle.text.specs.Text.{ascii, decimal_in, decimal, minus_sign, integer}
 

@@ -1,8 +1,8 @@
 -- Texts set apart by commas, one after the other.
 --   separator i   what stands in front of text i of a list: a comma, but nothing in front of the first
-use Rattle.std.specs.Prelude.{◌≡◌, ◌≤◌, ◌<◌}
+use Rattle.std.specs.Prelude.{◌≡◌, ◌≤◌, ◌<◌, ◌∷◌, ◌++◌, ◌*◌}
 use Rattle.std.proofs.Common.{sym, append_assoc, append-nil, arith, length-append}
-use Rattle.theory.specs.Basics.{List, [], ◌∷◌, ◌++◌, ℕ, zero, suc, ◌*◌, length, get_or, take, Each}
+use Rattle.theory.specs.Basics.{List, [], ℕ, zero, suc, length, get_or, take, Each}
 use Rattle.theory.proofs.Basics.Laws.{each_same, joined-next, joined_length}
 use Rattle.text.specs.Text.{Text, ascii, commas}
 

@@ -1,4 +1,5 @@
 -- `textreading::find` meets its contract: no byte that was passed is the one that is looked for.
+use Rattle.std.specs.Prelude.{◌∷◌, ◌+◌, ◌-◌}
 use native.Mathlib.Omega.{arith}
 use native.Mathlib.Numerals.{add-one}
 use mathlib.Core.Path.{◌≡◌}
@@ -6,7 +7,7 @@ use Prim.Native.Nat.{◌≤◌}
 use lib.Seq.{drop-cons}
 use lib.ListN.{drop_of_length-le}
 use borrow.Author.Tests.{eq-eqb, ne_eqb}
-use Rattle.theory.specs.Basics.{List, ◌∷◌, ℕ, suc, ◌+◌, ◌-◌, length, get_or, drop}
+use Rattle.theory.specs.Basics.{List, ℕ, suc, length, get_or, drop}
 use Rattle.textreading.specs.Reading.{before}
 use borrow.Author.Rules.{rules}
 use Rattle.textreading.proofs.find.Statement.{statement}

@@ -1,4 +1,5 @@
 -- `textreading::line_count` meets its contract: after i turns the newlines of the first i bytes are counted.
+use Rattle.std.specs.Prelude.{◌∷◌, ◌+◌, ◌-◌}
 use native.Mathlib.Omega.{arith}
 use native.Mathlib.Numerals.{add-one}
 use mathlib.Core.Path.{◌≡◌}
@@ -7,9 +8,9 @@ use Prim.Native.Nat.{◌≤◌}
 use lib.ListN.{drop_of_length-le}
 use lib.Seq.{drop-cons}
 use borrow.Author.Tests.{eq-eqb, ne_eqb}
-use Rattle.theory.specs.Basics.{cond, List, ◌∷◌, ℕ, suc, ◌+◌, ◌-◌, length, get_or, drop, ◌=?◌}
+use Rattle.theory.specs.Basics.{cond, List, ℕ, suc, length, get_or, drop, ◌=?◌}
 use Rattle.textreading.specs.Reading.{lines_of}
-use Rattle.textreading.specs.Reading.Lines.{lines-few}
+use Rattle.textreading.proofs.Reading.Lines.{lines-few}
 use Rattle.textreading.proofs.Newlines.{newlines, lines-newlines}
 use borrow.Author.Rules.{rules}
 use Rattle.textreading.proofs.line_count.Statement.{statement}

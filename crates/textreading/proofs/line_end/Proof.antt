@@ -3,7 +3,7 @@ use native.Mathlib.Omega.{arith}
 use lib.ListN.{length-drop}
 use Rattle.theory.specs.Basics.{drop}
 use Rattle.textreading.specs.Reading.Bytes.{byte-found, byte-missing}
-use Rattle.textreading.specs.Reading.Lines.{cut}
+use Rattle.textreading.proofs.Reading.Lines.{cut}
 use borrow.Author.Rules.{rules}
 use Rattle.textreading.proofs.line_end.Statement.{statement}
 use Rattle.textreading.proofs.line_end.Tie as tie

@@ -1,9 +1,10 @@
 -- `textreading::list_in` meets its contract: each turn reads a byte, and a comma ends the number in hand.
+use Rattle.std.specs.Prelude.{◌-◌}
 use native.Mathlib.Omega.{arith}
 use mathlib.Core.Path.{◌∙◌}
 use mathlib.Core.Logic.{⊎_elim}
 use Prim.Native.Nat.{◌≤◌}
-use Rattle.theory.specs.Basics.{◌-◌, length}
+use Rattle.theory.specs.Basics.{length}
 use Rattle.text.specs.Wrote.{most}
 use Rattle.text.specs.Wrote.Laws.{wrote-length}
 use Rattle.textreading.proofs.Pieces.{Reached, reached-none, reached-comma, reached-step, reached-all}

@@ -1,10 +1,11 @@
 -- `textreading::number_in` meets its contract: after i turns the first i bytes are read.
+use Rattle.std.specs.Prelude.{◌-◌}
 use native.Mathlib.Omega.{arith}
 use native.Mathlib.Numerals.{add-one}
 use mathlib.Core.Path.{◌≡◌, ◌∙◌, ap}
 use Prim.Native.Nat.{◌≤◌, min}
 use lib.Seq.{take-suc, take_all}
-use Rattle.theory.specs.Basics.{◌-◌, length, get_or, take}
+use Rattle.theory.specs.Basics.{length, get_or, take}
 use Rattle.text.specs.Wrote.{most}
 use Rattle.textreading.specs.Reading.{step, number_from, number_in}
 use Rattle.textreading.specs.Reading.Numbers.{number_append, step-most}

@@ -1,10 +1,10 @@
 -- Which bytes stand in a text: what sets pieces and lines apart stands in none of them.
 --   Without b t     the byte b does not stand in t
 --   Within l h t    each byte of t lies from l to h
-use Rattle.std.specs.Prelude.{◌≡◌, refl, ◌≤◌, ◌<◌}
+use Rattle.std.specs.Prelude.{◌≡◌, refl, ◌≤◌, ◌<◌, ◌∷◌, ◌++◌, ◌+◌, ◌/◌, ◌%◌}
 use Rattle.std.proofs.Common.{ap, arith, ne_eqb, eq-eqb}
 use Rattle.std.proofs.lemmas.Bool.{not-true}
-use Rattle.theory.specs.Basics.{Bool, true, false, not, cond, List, [], ◌∷◌, ◌++◌, map, ℕ, zero, suc, ◌+◌, ◌/◌, ◌%◌}
+use Rattle.theory.specs.Basics.{Bool, true, false, not, cond, List, [], map, ℕ, zero, suc}
 use Rattle.theory.specs.Basics.{ℤ, pos, negsuc, ◌=?◌, ◌<?◌, joined, every, length, take, drop, Each}
 use Rattle.theory.proofs.Basics.Laws.{both, each_append, each_same}
 use Rattle.text.specs.Text.{Text, ascii, decimal_in, decimal, integer, commas, list_text}

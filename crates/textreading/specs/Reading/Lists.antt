@@ -1,7 +1,7 @@
 -- Pieces that a byte sets apart, and a list that is read back from its text.
-use Rattle.std.specs.Prelude.{◌≡◌, refl, ◌<◌}
+use Rattle.std.specs.Prelude.{◌≡◌, refl, ◌<◌, ◌∷◌, ◌++◌, ◌^◌}
 use Rattle.std.proofs.Common.{◌∙◌, ap, append_assoc, append-nil, arith, eq-eqb, lt-ltb}
-use Rattle.theory.specs.Basics.{List, [], ◌∷◌, ◌++◌, map, ℕ, ◌^◌, ◌<?◌, keep, Each}
+use Rattle.theory.specs.Basics.{List, [], map, ℕ, ◌<?◌, keep, Each}
 use Rattle.theory.proofs.Basics.Laws.{each_append}
 use Rattle.text.specs.Text.{Text, decimal, commas, list_text}
 use Rattle.textreading.specs.Reading.{number_in, pieces, list_in}

@@ -1,9 +1,9 @@
 -- A number is read back from its decimal text, also between texts without digits.
-use Rattle.std.specs.Prelude.{◌≡◌, refl, ◌<◌, min}
+use Rattle.std.specs.Prelude.{◌≡◌, refl, ◌<◌, min, ◌∷◌, ◌++◌, ◌+◌, ◌-◌, ◌*◌, ◌/◌, ◌%◌, ◌^◌}
 use Rattle.std.proofs.Common.{◌∙◌, ap, append_assoc, lt_of_not-le, pow-suc, arith, lt-ltb, le-ltb, le-leb}
 use Rattle.std.proofs.Math.Decide.{dec_le}
-use Rattle.theory.specs.Basics.{Bool, true, false, cond, [], ◌∷◌, ◌++◌, ℕ, zero, suc, ◌+◌, ◌-◌, ◌*◌, ◌/◌, ◌%◌}
-use Rattle.theory.specs.Basics.{◌^◌, ℤ, pos, negsuc, neg_ℤ, nat_abs, Each}
+use Rattle.theory.specs.Basics.{Bool, true, false, cond, [], ℕ, zero, suc}
+use Rattle.theory.specs.Basics.{ℤ, pos, negsuc, neg_ℤ, nat_abs, Each}
 use Rattle.theory.proofs.Basics.Laws.{each_append}
 use Rattle.text.specs.Text.{Text, ascii, decimal_in, decimal, integer}
 use Rattle.text.specs.Wrote.{most}

@@ -1,7 +1,7 @@
 -- What stands at a place of a list.
-use Rattle.std.specs.Prelude.{◌≡◌, refl, ◌<◌}
+use Rattle.std.specs.Prelude.{◌≡◌, refl, ◌<◌, ◌∷◌, ◌+◌}
 use Rattle.std.proofs.Common.{sym, ◌∙◌, ap, zero-add, add-zero, add-suc, suc-add, arith, eqb-true}
-use Rattle.theory.specs.Basics.{Bool, true, List, [], ◌∷◌, map, every, ℕ, zero, suc, ◌+◌, ◌=?◌}
+use Rattle.theory.specs.Basics.{Bool, true, List, [], map, every, ℕ, zero, suc, ◌=?◌}
 use Rattle.theory.specs.Basics.{length, get_or, up_from, Each}
 use Rattle.theory.proofs.Basics.Laws.{both}
 use Rattle.theory.specs.Basics.AtPlace.{tabled}

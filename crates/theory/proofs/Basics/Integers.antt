@@ -1,8 +1,8 @@
 -- The whole numbers as a group: the laws, beside those of lib.IntN, that characters use.
-use Rattle.std.specs.Prelude.{◌≡◌, refl}
+use Rattle.std.specs.Prelude.{◌≡◌, refl, ◌+◌, ◌+ℤ◌, ◌-ℤ◌}
 use Rattle.std.proofs.Common.{sym, ◌∙◌, ap, add-zero, add-suc, arith}
 use Rattle.std.proofs.Math.IntN.{+ℤ_assoc, +ℤ_comm, +ℤ_idr, neg_ℤ-+ℤ, neg_ℤ-neg_ℤ, pos-ne-negsuc, -ℤ-+ℤ_cancel, +ℤ-neg_ℤ_cancel}
-use Rattle.theory.specs.Basics.{Bool, true, false, not, ℕ, zero, suc, ◌+◌, ℤ, pos, negsuc, ◌+ℤ◌, ◌-ℤ◌, neg_ℤ}
+use Rattle.theory.specs.Basics.{Bool, true, false, not, ℕ, zero, suc, ℤ, pos, negsuc, neg_ℤ}
 use Rattle.theory.specs.Basics.{odd, signed}
 use Rattle.theory.proofs.Basics.Laws.{odd-suc}
 use Rattle.theory.specs.Basics.Integers.{signed-sums}

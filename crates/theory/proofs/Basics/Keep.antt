@@ -1,11 +1,11 @@
 -- What holds of each element, what is kept, and totals: of parts of a list, and of the elements that pass a test.
 --   FirstFrom test i k   k is the first of the numbers i, i + 1, .. that passes the test
-use Rattle.std.specs.Prelude.{◌≡◌, refl, ◌≤◌, ◌<◌}
+use Rattle.std.specs.Prelude.{◌≡◌, refl, ◌≤◌, ◌<◌, ◌∷◌, ◌++◌, ◌+◌, ◌+ℤ◌}
 use Rattle.std.proofs.Common.{sym, ap, ◌∙◌, arith}
 use Rattle.std.proofs.lemmas.Bool.{false≢true}
 use Rattle.std.proofs.Math.IntN.{+ℤ_assoc}
-use Rattle.theory.specs.Basics.{Bool, true, false, not, cond, List, [], ◌∷◌, ◌++◌, map, length, get_or, take, drop}
-use Rattle.theory.specs.Basics.{ℕ, zero, suc, ◌+◌, ℤ, ◌+ℤ◌, keep, every, total, sum, up_from, Each}
+use Rattle.theory.specs.Basics.{Bool, true, false, not, cond, List, [], map, length, get_or, take, drop}
+use Rattle.theory.specs.Basics.{ℕ, zero, suc, ℤ, keep, every, total, sum, up_from, Each}
 use Rattle.theory.proofs.Basics.Laws.{both, each_same, each_member}
 use Rattle.theory.specs.Basics.Integers.{swap-front}
 

@@ -1,11 +1,11 @@
 -- Laws of the words of Basics.
-use Rattle.std.specs.Prelude.{◌≡◌, refl, ◌≤◌, ◌<◌, eqb}
+use Rattle.std.specs.Prelude.{◌≡◌, refl, ◌≤◌, ◌<◌, eqb, ◌&&◌, ◌∷◌, ◌++◌, ◌+◌, ◌*◌, ◌%◌, ◌+ℤ◌}
 use Rattle.std.proofs.Common.{sym, ◌∙◌, ap, ap₂, add-zero, add-suc, suc-add, mul_assoc, arith, eqb-true, eq-eqb, length-append}
 use Rattle.std.proofs.lemmas.Bool.{false≢true}
 use mathlib.Core.List.{append_assoc, append-nil, Memᴰ}
 use Rattle.std.proofs.Math.IntN.{+ℤ_idl, +ℤ_assoc}
-use Rattle.theory.specs.Basics.{Bool, true, false, not, cond, ◌&&◌, List, [], ◌∷◌, ◌++◌, map, length, get_or, take}
-use Rattle.theory.specs.Basics.{ℕ, zero, suc, ◌+◌, ◌*◌, ◌%◌, ℤ, ◌+ℤ◌, ◌=?◌, odd, same, keep, count}
+use Rattle.theory.specs.Basics.{Bool, true, false, not, cond, List, [], map, length, get_or, take}
+use Rattle.theory.specs.Basics.{ℕ, zero, suc, ℤ, ◌=?◌, odd, same, keep, count}
 use Rattle.theory.specs.Basics.{joined, total, product, sum, up_from}
 pub use Rattle.theory.specs.Basics.{Each}
 

@@ -1,11 +1,11 @@
 -- Laws of sizes, and of the bounds: they rise with the degree, and what a line needs, the lines that its hooks leave
 -- can share. A line of degree d has k hooks of a length h, k at most d, and each leaves a line of degree d - h.
-use Rattle.std.specs.Prelude.{◌≡◌, refl, ◌≤◌, ltb}
+use Rattle.std.specs.Prelude.{◌≡◌, refl, ◌≤◌, ltb, ◌∷◌, ◌+◌, ◌-◌, ◌*◌, ◌+ℤ◌}
 use Rattle.std.proofs.Common.{zero-le, le_refl, le_trans, mul-le-mul, arith}
 use Rattle.std.proofs.Math.Decide.{ℕ_discrete}
 use Rattle.std.proofs.Math.IntN.{sub_ℕ}
-use Rattle.theory.specs.Basics.{Bool, true, false, cond, List, [], ◌∷◌, length, ℕ, zero, suc, ◌+◌, ◌-◌, ◌*◌, sum}
-use Rattle.theory.specs.Basics.{ℤ, pos, negsuc, ◌+ℤ◌, neg_ℤ, nat_abs, signed, Each}
+use Rattle.theory.specs.Basics.{Bool, true, false, cond, List, [], length, ℕ, zero, suc, sum}
+use Rattle.theory.specs.Basics.{ℤ, pos, negsuc, neg_ℤ, nat_abs, signed, Each}
 use Rattle.theory.specs.Bounds.{factorial, S}
 
 -- ---- sizes of sums

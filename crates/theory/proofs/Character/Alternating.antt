@@ -4,8 +4,8 @@
 --   ZeroBelow f      f is zero where an entry is negative
 --   raised_by n l     every entry n more; raised l, every entry one more, and a zero behind them
 --   Stable f         f of raised l is f of l
-use Rattle.std.specs.Prelude.{◌≡◌}
-use Rattle.theory.specs.Basics.{List, [], ◌∷◌, ◌++◌, map, ℕ, ℤ, pos, negsuc, ◌+ℤ◌, neg_ℤ}
+use Rattle.std.specs.Prelude.{◌≡◌, ◌∷◌, ◌++◌, ◌+ℤ◌}
+use Rattle.theory.specs.Basics.{List, [], map, ℕ, ℤ, pos, negsuc, neg_ℤ}
 use Rattle.theory.proofs.Basics.Integers.{own-opposite}
 
 pub data Swap : List ℤ → List ℤ → Type 0 where

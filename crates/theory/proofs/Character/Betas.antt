@@ -1,14 +1,14 @@
 -- The beta-numbers of k parts: the first and k - 1, the second and k - 2, .., the last and 0.
 --   betas l      the beta-numbers of the parts l
 --   AsLong l k   k has as many parts as l
-use Rattle.std.specs.Prelude.{◌≡◌, Bool, true, false}
+use Rattle.std.specs.Prelude.{◌≡◌, Bool, true, false, ◌∷◌, ◌++◌, ◌+ℤ◌}
 use Rattle.std.proofs.Math.Path.{refl}
 use Rattle.std.proofs.Common.{sym, ◌∙◌, ap, append-nil, append_assoc, length-append}
 use Rattle.std.proofs.lemmas.Bool.{false≢true}
 use Rattle.std.proofs.Math.Dec.{eqb-suc-zero}
 use Rattle.std.proofs.Math.IntN.{+ℤ_assoc}
-use Rattle.theory.specs.Basics.{List, [], ◌∷◌, ◌++◌, ℕ, zero, suc, length, replicate, every, sum, ◌=?◌}
-use Rattle.theory.specs.Basics.{ℤ, pos, negsuc, ◌+ℤ◌, neg_ℤ, nat_abs, Each}
+use Rattle.theory.specs.Basics.{List, [], ℕ, zero, suc, length, replicate, every, sum, ◌=?◌}
+use Rattle.theory.specs.Basics.{ℤ, pos, negsuc, neg_ℤ, nat_abs, Each}
 use Rattle.theory.proofs.Basics.Laws.{each_map, sum-map, sum_same}
 use Rattle.theory.specs.Character.{struck, trimmed}
 use Rattle.theory.proofs.Basics.Integers.{swap-back}

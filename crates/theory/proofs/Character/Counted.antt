@@ -1,9 +1,9 @@
 -- What a class counts at beta-numbers: its cycles are struck, with no rule but that the ground counts.
 --   counted c l   the sum over all ways to strike the cycles of c from l
-use Rattle.std.specs.Prelude.{◌≡◌, refl}
+use Rattle.std.specs.Prelude.{◌≡◌, refl, ◌∷◌, ◌++◌}
 use Rattle.std.proofs.Common.{sym, ◌∙◌, ap, arith}
 use Rattle.std.proofs.Math.Path.{fun_ext}
-use Rattle.theory.specs.Basics.{List, [], ◌∷◌, ◌++◌, ℕ, ℤ}
+use Rattle.theory.specs.Basics.{List, [], ℕ, ℤ}
 use Rattle.theory.specs.Partition.{Parts, times}
 use Rattle.theory.specs.Partition.Laws.{NoZero, none, some}
 use Rattle.theory.proofs.Partition.Laws.{Split, split, times-own, times-cons, times-middle}

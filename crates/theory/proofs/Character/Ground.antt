@@ -6,11 +6,11 @@
 --   past x l      the product of the signs of x - y over the entries y of l
 --   weigh k l     the sign of the order of l, and 0 if an entry occurs twice or is not within k
 --   ground l      1 or -1 if l is 0, .., k - 1 in some order, where k is how many, and 0 if not
-use Rattle.std.specs.Prelude.{◌≡◌, refl, ◌≤◌}
+use Rattle.std.specs.Prelude.{◌≡◌, refl, ◌≤◌, ◌∷◌, ◌++◌, ◌+◌, ◌+ℤ◌, ◌-ℤ◌}
 use Rattle.std.proofs.Common.{sym, ◌∙◌, ap, arith}
 use Rattle.std.proofs.Math.IntN.{suc_ℤ, +ℤ_one, +ℤ_idr}
-use Rattle.theory.specs.Basics.{List, [], ◌∷◌, ◌++◌, ℕ, zero, suc, ◌+◌, length}
-use Rattle.theory.specs.Basics.{ℤ, pos, negsuc, ◌+ℤ◌, ◌-ℤ◌, neg_ℤ}
+use Rattle.theory.specs.Basics.{List, [], ℕ, zero, suc, length}
+use Rattle.theory.specs.Basics.{ℤ, pos, negsuc, neg_ℤ}
 use Rattle.theory.proofs.Basics.Integers.{difference-back, difference-one-more}
 use Rattle.theory.proofs.Character.Alternating.{Swap, here, later, Alternating, ZeroBelow, raised, Stable}
 

@@ -1,11 +1,11 @@
 -- Sums over struck lists, and what of a function of lists they keep.
 --   lowered m f l    the sum of f over the lists that have m less in one entry of l
-use Rattle.std.specs.Prelude.{◌≡◌}
+use Rattle.std.specs.Prelude.{◌≡◌, ◌∷◌, ◌++◌, ◌+◌, ◌+ℤ◌, ◌-ℤ◌}
 use Rattle.std.proofs.Math.Path.{refl, fun_ext}
 use Rattle.std.proofs.Common.{ap}
 use Rattle.std.proofs.Math.IntN.{neg_ℤ-+ℤ, +ℤ_idl}
-use Rattle.theory.specs.Basics.{List, [], ◌∷◌, ◌++◌, ℕ, suc, ◌+◌, sum}
-use Rattle.theory.specs.Basics.{ℤ, pos, negsuc, ◌+ℤ◌, ◌-ℤ◌, neg_ℤ}
+use Rattle.theory.specs.Basics.{List, [], ℕ, suc, sum}
+use Rattle.theory.specs.Basics.{ℤ, pos, negsuc, neg_ℤ}
 use Rattle.theory.proofs.Basics.Laws.{sum-map}
 use Rattle.theory.specs.Character.{struck}
 use Rattle.theory.specs.Basics.Integers.{sums, signed-sums}

@@ -1,9 +1,9 @@
 -- The character is what the class counts at the beta-numbers; so it depends neither on the order in which the rules are
 -- followed nor on that of the cycles (document 01, "The character", first paragraph).
-use Rattle.std.specs.Prelude.{◌≡◌, refl}
+use Rattle.std.specs.Prelude.{◌≡◌, refl, ◌∷◌}
 use Rattle.std.proofs.Common.{sym, ◌∙◌, ap}
 use Rattle.std.proofs.Math.Path.{fun_ext}
-use Rattle.theory.specs.Basics.{true, List, [], ◌∷◌, map, ℕ, suc, sum, ℤ, pos}
+use Rattle.theory.specs.Basics.{true, List, [], map, ℕ, suc, sum, ℤ, pos}
 use Rattle.theory.specs.Partition.{Parts, is_partition, degree, times}
 use Rattle.theory.specs.Partition.Laws.{NoZero, none, some}
 use Rattle.theory.proofs.Partition.Laws.{no_zero, no-degree}

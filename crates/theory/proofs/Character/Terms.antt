@@ -1,9 +1,9 @@
 -- Laws of terms, and the three cases of sink.
 --   Holds P t   P holds of what t holds, if it holds anything
-use Rattle.std.specs.Prelude.{◌≡◌, refl}
+use Rattle.std.specs.Prelude.{◌≡◌, refl, ◌∷◌, ◌+ℤ◌, ◌-ℤ◌}
 use Rattle.std.proofs.Common.{sym, ap}
 use Rattle.std.proofs.Math.IntN.{neg_ℤ-neg_ℤ}
-use Rattle.theory.specs.Basics.{List, ◌∷◌, ℕ, zero, suc, ℤ, pos, negsuc, ◌+ℤ◌, ◌-ℤ◌, neg_ℤ}
+use Rattle.theory.specs.Basics.{List, ℕ, zero, suc, ℤ, pos, negsuc, neg_ℤ}
 use Rattle.theory.specs.Character.{Term, nothing, plus, minus, turn, then, before, value, sink}
 
 module _ {A : Type 0} where

@@ -1,14 +1,14 @@
 -- Laws of what a class tells: its sign and its divisor can be told by one reading of the parts, longest first.
 --   occurrence last t p      how often p has occurred once it is read behind t parts `last`
 --   divisor_after last t ps   each of the parts ps times its occurrence, read behind t parts `last`
-use Rattle.std.specs.Prelude.{◌≡◌, ◌≤◌, ◌<◌}
+use Rattle.std.specs.Prelude.{◌≡◌, ◌≤◌, ◌<◌, ◌∷◌, ◌++◌, ◌+◌, ◌-◌, ◌*◌, ◌%◌, ◌^◌}
 use Rattle.std.proofs.Math.Path.{refl}
 use Rattle.std.proofs.Common.{sym, ◌∙◌, ap, le_refl, mul-le-mul, mul-pos, pow-suc, one-mul, eq-eqb, ne_eqb}
 use Rattle.std.proofs.Math.Decide.{ℕ_discrete}
 use Rattle.std.proofs.Math.Nat.{pow-zero}
 use native.Mathlib.Omega.{arith}
-use Rattle.theory.specs.Basics.{Bool, true, false, not, cond, [], ◌∷◌, ◌++◌, map, replicate, length, ℕ, zero, suc}
-use Rattle.theory.specs.Basics.{◌+◌, ◌-◌, ◌*◌, ◌%◌, ◌^◌, pos, negsuc, ◌=?◌, odd, keep, count, product, signed}
+use Rattle.theory.specs.Basics.{Bool, true, false, not, cond, [], map, replicate, length, ℕ, zero, suc}
+use Rattle.theory.specs.Basics.{pos, negsuc, ◌=?◌, odd, keep, count, product, signed}
 use Rattle.theory.specs.Basics.{Each}
 use Rattle.theory.proofs.Basics.Laws.{map_same, odd-suc}
 use Rattle.theory.specs.Partition.{Parts, first, is_partition, degree, times}

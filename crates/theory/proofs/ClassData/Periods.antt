@@ -1,11 +1,11 @@
 -- Laws of the period (document 02, P2): there is one and only one, and part by part it can be computed.
 --   Multiplies n p k  k is the least positive number for which p divides n times k
-use Rattle.std.specs.Prelude.{◌≡◌, refl, ◌≤◌, ◌<◌}
+use Rattle.std.specs.Prelude.{◌≡◌, refl, ◌≤◌, ◌<◌, ◌∷◌, ◌*◌, ◌/◌, ◌%◌}
 use Rattle.std.proofs.Common.{sym, ◌∙◌, ap, le_antisymm, mod-lt, mul-pos, mul-le-mul_left, pos_of_ne-zero, arith, eqb-true, eq-eqb}
 use Rattle.std.specs.Int.{◌∣◌}
 use Rattle.std.proofs.Math.Decide.{ℕ_discrete, dec_lt}
 use Rattle.std.proofs.Math.Nat.{mul-mod_left, dvd_refl, dvd_trans, dvd-mul_left_of_dvd, dvd-mul_right, dvd-mod_iff, one-dvd, le_of_dvd, mod-eq-zero_of_dvd, dvd_of_mod-eq-zero, mul-div_cancel'}
-use Rattle.theory.specs.Basics.{Bool, true, [], ◌∷◌, ℕ, zero, suc, ◌*◌, ◌/◌, ◌%◌, ◌=?◌, Each}
+use Rattle.theory.specs.Basics.{Bool, true, [], ℕ, zero, suc, ◌=?◌, Each}
 use Rattle.theory.proofs.Basics.Laws.{each_both, each_same}
 use Rattle.theory.proofs.Basics.Keep.{FirstFrom, first-kept}
 use Rattle.theory.specs.Partition.{Parts, first, is_partition, degree}

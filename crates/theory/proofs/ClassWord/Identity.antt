@@ -1,7 +1,7 @@
 -- The class (1^n) of the identity: n parts 1, a word of n ones in front.
-use Rattle.std.specs.Prelude.{◌≡◌, refl, ◌≤◌}
+use Rattle.std.specs.Prelude.{◌≡◌, refl, ◌≤◌, ◌+◌, ◌-◌, ◌^◌}
 use Rattle.std.proofs.Common.{zero-add, suc-add, arith}
-use Rattle.theory.specs.Basics.{true, ℕ, zero, suc, ◌+◌, ◌-◌, ◌^◌, replicate}
+use Rattle.theory.specs.Basics.{true, ℕ, zero, suc, replicate}
 use Rattle.theory.specs.Partition.{first, is_partition, degree}
 use Rattle.theory.specs.Partition.Laws.{NoZero, none, some}
 use Rattle.theory.proofs.Partition.Laws.{in-front}

@@ -1,10 +1,10 @@
 -- Class words, there and back: one word to a partition, and one partition to a word (document 01, "Class word").
 --   OneToOne      held partitions and good class words correspond one to one
-use Rattle.std.specs.Prelude.{◌≡◌, ◌≤◌, ◌<◌}
+use Rattle.std.specs.Prelude.{◌≡◌, ◌≤◌, ◌<◌, ◌&&◌, ◌∷◌, ◌++◌, ◌+◌, ◌-◌, ◌^◌}
 use Rattle.std.proofs.Math.Path.{refl}
 use Rattle.std.proofs.Common.{sym, ◌∙◌, ap, zero-add, add-zero, add-suc, suc-add, arith, ltb-true, lt-ltb, le-ltb, pow_pos, pow_mono}
-use Rattle.theory.specs.Basics.{true, false, not, ◌&&◌, [], ◌∷◌, ◌++◌, replicate, length, ℕ, zero, suc, ◌+◌}
-use Rattle.theory.specs.Basics.{◌-◌, ◌^◌, ◌<?◌}
+use Rattle.theory.specs.Basics.{true, false, not, [], replicate, length, ℕ, zero, suc}
+use Rattle.theory.specs.Basics.{◌<?◌}
 use Rattle.theory.proofs.Basics.Laws.{both}
 use Rattle.theory.specs.Partition.{Parts, is_partition, degree, times, without}
 use Rattle.theory.specs.Partition.Laws.{NoZero, none, some}

@@ -3,14 +3,14 @@
 --   NextPart W at x z b   the next part when `at` of the W digits are read and the number x is left: z are the leading
 --                         zeros of x, b is the one behind them, the part is z - at; b comes off, and z digits are read
 --   FirstPart W x z       the first part of x is z, its leading zeros: one shift that drops the top bits takes it out
-use Rattle.std.specs.Prelude.{◌≡◌, ◌≤◌, ◌<◌}
+use Rattle.std.specs.Prelude.{◌≡◌, ◌≤◌, ◌<◌, ◌∷◌, ◌++◌, ◌+◌, ◌-◌, ◌*◌, ◌/◌, ◌%◌, ◌^◌}
 use Rattle.std.proofs.Math.Path.{refl}
 use Rattle.std.proofs.Common.{ap, ap₂, ◌∙◌, add-zero, add-suc, mul-one, pow-suc, lt_of_lt_of_le, lt_of_le_of_lt, lt_of_not-le, not-le_of_lt, pos_of_ne-zero, arith, pow_pos, pow_mono, pow-add, shl_lt}
 use Rattle.std.proofs.Math.Nat.{suc-sub-suc}
 use Rattle.std.proofs.Math.Decide.{ℕ_discrete}
 use Rattle.std.specs.Int.Count.{count_leading_zeros, count_trailing_zeros, trailing_of_zero}
 use Rattle.std.proofs.lemmas.Nat.{leading_top}
-use Rattle.theory.specs.Basics.{true, false, [], ◌∷◌, ◌++◌, ℕ, zero, suc, ◌+◌, ◌-◌, ◌*◌, ◌/◌, ◌%◌, ◌^◌}
+use Rattle.theory.specs.Basics.{true, false, [], ℕ, zero, suc}
 use Rattle.theory.specs.Basics.{length, drop}
 use Rattle.theory.specs.Partition.{Parts, degree}
 use Rattle.theory.specs.Digits.{Digits, digits, word}

@@ -1,14 +1,14 @@
 -- Bits of a remainder, a complement, a shift, and of what two numbers have in common; digits cut in two.
 --   bit_below h b x   the bit of x that stands h places below place b; there is none where b is below h
 -- Of the library: bit_and x y has the ones that both x and y have.
-use Rattle.std.specs.Prelude.{◌≡◌, refl, ◌<◌}
+use Rattle.std.specs.Prelude.{◌≡◌, refl, ◌<◌, ◌&&◌, ◌++◌, ◌+◌, ◌-◌, ◌*◌, ◌/◌, ◌%◌, ◌^◌}
 use Rattle.std.proofs.Common.{sym, ◌∙◌, ap, zero-add, suc-add, add_comm, mod-lt, mul_assoc, arith, le-leb, pow_pos, pow-add, shr-shr, shr_lt}
 use Rattle.std.proofs.Math.Decide.{dec_le}
 use Rattle.std.proofs.lemmas.Bool.{lt-leb}
 use Rattle.std.proofs.Math.Pow.{field, mod-mod-pow, split, high}
 use Rattle.std.proofs.lemmas.Nat.{shl-shr, and_shr, and_mod}
 use Rattle.std.specs.Int.Bits.{bit_and, shifted_even}
-use Rattle.theory.specs.Basics.{Bool, not, ◌&&◌, ◌++◌, ℕ, zero, suc, ◌+◌, ◌-◌, ◌*◌, ◌/◌, ◌%◌, ◌^◌}
+use Rattle.theory.specs.Basics.{Bool, not, ℕ, zero, suc}
 use Rattle.theory.specs.Basics.{◌=?◌, ◌≤?◌, odd}
 use Rattle.theory.proofs.Basics.Laws.{odd-suc}
 use Rattle.theory.specs.Digits.{bit, digits}

@@ -1,9 +1,9 @@
 -- Laws of the ones among digits and of the digits up to the last one.
 --   LastOne ds us   us are the digits ds up to the last one, seen digit by digit
-use Rattle.std.specs.Prelude.{◌≡◌, refl, ◌⊎◌, ◌≤◌, ◌<◌}
+use Rattle.std.specs.Prelude.{◌≡◌, refl, ◌⊎◌, ◌≤◌, ◌<◌, ◌∷◌, ◌++◌, ◌+◌}
 use Rattle.std.proofs.Common.{sym, ◌∙◌, ap, inl, inr, ⊎_elim, pos_of_ne-zero, arith, eq-eqb, ne_eqb}
 use Rattle.std.proofs.Math.Decide.{ℕ_discrete}
-use Rattle.theory.specs.Basics.{Bool, true, false, [], ◌∷◌, ◌++◌, ℕ, zero, suc, ◌+◌, length, replicate}
+use Rattle.theory.specs.Basics.{Bool, true, false, [], ℕ, zero, suc, length, replicate}
 use Rattle.theory.proofs.Basics.Laws.{count-append}
 use Rattle.theory.specs.Digits.{Digits, word, ones, zeros, up_to_last_one}
 use Rattle.theory.proofs.Digits.Laws.{filled, word-filled}

@@ -1,11 +1,11 @@
 -- Digits and words, there and back, at any number of digits n.
 --   filled n ds   n digits that begin with ds; zeros fill the rest
-use Rattle.std.specs.Prelude.{◌≡◌, refl, ◌⊎◌, ◌<◌, eqb}
+use Rattle.std.specs.Prelude.{◌≡◌, refl, ◌⊎◌, ◌<◌, eqb, ◌∷◌, ◌+◌, ◌-◌, ◌*◌, ◌/◌, ◌%◌, ◌^◌}
 use Rattle.std.proofs.Common.{sym, ◌∙◌, ap, inl, inr, ⊎_elim, mod-eq_of_lt, one-mul, zero-add, add-one, arith, lt-ltb, le-ltb, pow_pos}
 use Rattle.std.proofs.Math.Nat.{div-eq_of_lt}
 use Rattle.std.proofs.Math.Decide.{dec_lt}
 use Rattle.std.proofs.Math.Pow.{pow-lt, high, low, field, mod-mod-pow}
-use Rattle.theory.specs.Basics.{true, false, not, [], ◌∷◌, ℕ, zero, suc, ◌+◌, ◌-◌, ◌*◌, ◌/◌, ◌%◌, ◌^◌, ◌<?◌}
+use Rattle.theory.specs.Basics.{true, false, not, [], ℕ, zero, suc, ◌<?◌}
 use Rattle.theory.specs.Basics.{length}
 use Rattle.theory.specs.Digits.{Digits, bit, digits, word}
 

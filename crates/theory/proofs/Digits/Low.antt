@@ -2,7 +2,7 @@
 --   low_first n x      the n lowest bits of x, the lowest first
 --   LowestDigit n x   of n + 1 digits of x, the lowest is a zero, which is one trailing zero more, or a one
 -- Of the library: count_trailing_zeros n x is how many zeros end the n digits of x.
-use Rattle.std.specs.Prelude.{◌≡◌, ◌≤◌, ◌<◌}
+use Rattle.std.specs.Prelude.{◌≡◌, ◌≤◌, ◌<◌, ◌∷◌, ◌++◌, ◌+◌, ◌-◌, ◌/◌, ◌%◌, ◌^◌}
 use Rattle.std.proofs.Math.Path.{refl}
 use Rattle.std.proofs.Common.{sym, ap, ap₂, ◌∙◌, div-one, one-add, arith, shr-shr}
 use Rattle.std.proofs.lemmas.List.{reverse-append}
@@ -10,7 +10,7 @@ use Rattle.std.proofs.Math.Nat.{suc-sub-suc, mod-one, sub-zero}
 use Rattle.std.proofs.Math.Decide.{ℕ_discrete}
 use Rattle.std.specs.Int.Count.{count_trailing_zeros}
 use Rattle.std.proofs.lemmas.Nat.{trailing_le, mod-pow-add}
-use Rattle.theory.specs.Basics.{true, false, [], ◌∷◌, ◌++◌, reverse, ℕ, zero, suc, ◌+◌, ◌-◌, ◌/◌, ◌%◌, ◌^◌, odd}
+use Rattle.theory.specs.Basics.{true, false, [], reverse, ℕ, zero, suc, odd}
 use Rattle.theory.specs.Digits.{Digits, digits, up_to_last_one}
 use Rattle.theory.proofs.Digits.LastOne.{last_one, last-zero}
 

@@ -6,11 +6,11 @@
 --   stair k         k - 1, .., 1, 0
 --   factorials ls   the product of the factorials
 --   Less ls a k     k is ls with one a of its numbers one less: 0 became -1, or the list still does not rise
-use Rattle.std.specs.Prelude.{◌≡◌, refl, ◌≤◌, ◌<◌}
+use Rattle.std.specs.Prelude.{◌≡◌, refl, ◌≤◌, ◌<◌, ◌∷◌, ◌++◌, ◌*◌, ◌-ℤ◌}
 use Rattle.std.proofs.Common.{◌∙◌, ap, ap₂, subst, mul_assoc, mul_left_comm, arith}
 use Rattle.std.proofs.Math.Decide.{ℕ_discrete}
-use Rattle.theory.specs.Basics.{List, [], ◌∷◌, ◌++◌, map, length, ℕ, zero, suc, ◌*◌, total, product}
-use Rattle.theory.specs.Basics.{ℤ, pos, negsuc, ◌-ℤ◌}
+use Rattle.theory.specs.Basics.{List, [], map, length, ℕ, zero, suc, total, product}
+use Rattle.theory.specs.Basics.{ℤ, pos, negsuc}
 use Rattle.theory.proofs.Basics.Integers.{one-back}
 use Rattle.theory.specs.Partition.{first}
 use Rattle.theory.specs.Bounds.{factorial}

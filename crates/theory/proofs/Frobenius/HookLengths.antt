@@ -4,13 +4,13 @@
 --   to_ones k ds         the product of the distances to the ones of ds, where the first digit has the distance k + 1
 --   powers f hs         the product of h^(f h) over the numbers hs
 --   hook_powers i n w    each of the n lengths from i, to the power of how many hooks of that length the word w has
-use Rattle.std.specs.Prelude.{◌≡◌, refl, ◌≤◌, ◌<◌}
+use Rattle.std.specs.Prelude.{◌≡◌, refl, ◌≤◌, ◌<◌, ◌∷◌, ◌+◌, ◌-◌, ◌*◌, ◌^◌, ◌*ℤ◌}
 use Rattle.std.proofs.Common.{sym, ◌∙◌, ap, ap₂, subst, add-zero, add-suc, pow-suc, mul_assoc, mul-one, one-mul, arith, length-append, drop_of_length-le, pow-add, drop-cons}
 use Rattle.std.proofs.lemmas.List.{map-append, length-map}
 use Rattle.std.proofs.Math.Nat.{pow-zero, eq_of_mul-eq-mul_right}
 use Rattle.std.proofs.Math.Decide.{dec_lt}
-use Rattle.theory.specs.Basics.{Bool, true, false, List, [], ◌∷◌, map, length, take, drop, get_or}
-use Rattle.theory.specs.Basics.{replicate, ℕ, zero, suc, ◌+◌, ◌-◌, ◌*◌, ◌^◌, pos, ◌*ℤ◌, nat_abs}
+use Rattle.theory.specs.Basics.{Bool, true, false, List, [], map, length, take, drop, get_or}
+use Rattle.theory.specs.Basics.{replicate, ℕ, zero, suc, pos, nat_abs}
 use Rattle.theory.specs.Basics.{total, product, up_from, Each}
 use Rattle.theory.proofs.Basics.Laws.{product-append, up-from-one}
 use Rattle.theory.specs.Partition.{Parts, first, degree}

@@ -4,13 +4,13 @@
 -- induction on n. To strike a cycle of length 1 makes one number one less; the sums of Spreads close the induction.
 --   Claim n        the claim at n, without a division
 --   Exact z n d    z is n divided by d, and the division leaves nothing
-use Rattle.std.specs.Prelude.{◌≡◌, refl, ◌≤◌, ◌<◌}
+use Rattle.std.specs.Prelude.{◌≡◌, refl, ◌≤◌, ◌<◌, ◌∷◌, ◌+◌, ◌-◌, ◌*◌, ◌/◌, ◌+ℤ◌, ◌-ℤ◌, ◌*ℤ◌}
 use Rattle.std.proofs.Common.{sym, ◌∙◌, ap, ap₂, subst, add-zero, mul-pos, arith}
 use Rattle.std.proofs.Math.Nat.{div-eq_of_eq-mul_left}
 use Rattle.std.proofs.lemmas.List.{length-map}
 use Rattle.std.proofs.Math.IntN.{pos-ne-negsuc, +ℤ_invr, +ℤ-neg_ℤ_cancel, *ℤ-zero, zero-*ℤ, *ℤ_comm}
-use Rattle.theory.specs.Basics.{true, List, [], ◌∷◌, map, length, replicate, ℕ, zero, suc, ◌+◌, ◌-◌}
-use Rattle.theory.specs.Basics.{◌*◌, ◌/◌, ℤ, pos, negsuc, ◌+ℤ◌, ◌-ℤ◌, ◌*ℤ◌, neg_ℤ, nat_abs, sum, total, product}
+use Rattle.theory.specs.Basics.{true, List, [], map, length, replicate, ℕ, zero, suc}
+use Rattle.theory.specs.Basics.{ℤ, pos, negsuc, neg_ℤ, nat_abs, sum, total, product}
 use Rattle.theory.proofs.Basics.Laws.{product-append}
 use Rattle.theory.proofs.Basics.Integers.Products.{times-one, one-times}
 use Rattle.theory.proofs.Basics.Integers.Ring.{var, ◌⊗◌, ring}

@@ -7,12 +7,12 @@
 --   triangle k      0 + 1 + .. + (k - 1)
 --   Lower l a k     k is l with one a of its numbers one less
 --   over g l        the sum of g a k over these k
-use Rattle.std.specs.Prelude.{◌≡◌}
+use Rattle.std.specs.Prelude.{◌≡◌, ◌∷◌, ◌+◌, ◌+ℤ◌, ◌-ℤ◌, ◌*ℤ◌}
 use Rattle.std.proofs.Math.Path.{refl}
 use Rattle.std.proofs.Common.{sym, ◌∙◌, ap, ap₂, arith}
 use Rattle.std.proofs.Math.IntN.{*ℤ-zero}
-use Rattle.theory.specs.Basics.{List, [], ◌∷◌, length, ℕ, zero, suc, ◌+◌, sum}
-use Rattle.theory.specs.Basics.{ℤ, pos, ◌+ℤ◌, ◌-ℤ◌, ◌*ℤ◌, neg_ℤ}
+use Rattle.theory.specs.Basics.{List, [], length, ℕ, zero, suc, sum}
+use Rattle.theory.specs.Basics.{ℤ, pos, neg_ℤ}
 use Rattle.theory.specs.Basics.Integers.{sums}
 use Rattle.theory.proofs.Basics.Integers.Products.{times-sum}
 use Rattle.theory.proofs.Basics.Integers.Ring.{Expr, var, num, ◌⊕◌, ◌⊝◌, ◌⊗◌, ⊖, ring}

@@ -4,11 +4,11 @@
 --   Apart xs         no element of xs equals a later one
 --   left hs          what the hooks hs leave, as digits
 --   OfOnes n m ds    ds are n digits, and m of them are ones
-use Rattle.std.specs.Prelude.{◌≡◌, refl, ◌≤◌}
+use Rattle.std.specs.Prelude.{◌≡◌, refl, ◌≤◌, ◌∷◌, ◌++◌, ◌+◌}
 use Rattle.std.proofs.Common.{sym, ◌∙◌, ap, ap₂, true≢false, arith}
 use mathlib.Core.List.{map-map, head-eq_of_cons-eq, tail-eq_of_cons-eq}
-use Rattle.theory.specs.Basics.{Bool, true, false, List, [], ◌∷◌, ◌++◌, map, take, drop, length, replicate}
-use Rattle.theory.specs.Basics.{ℕ, zero, suc, ◌+◌, Each}
+use Rattle.theory.specs.Basics.{Bool, true, false, List, [], map, take, drop, length, replicate}
+use Rattle.theory.specs.Basics.{ℕ, zero, suc, Each}
 use Rattle.theory.proofs.Basics.Laws.{each_map, each_member}
 use Rattle.theory.specs.Digits.{Digits, digits, word, ones, width}
 use Rattle.theory.proofs.Digits.Laws.{filled, digits-word, length_digits}

@@ -1,12 +1,12 @@
 -- Associates (document 000, formula 6): the character of the conjugate shape is the class sign times that of the shape,
 -- and the class sign is the character of (1^n), the conjugate of one row.
-use Rattle.std.specs.Prelude.{◌≡◌, ◌<◌}
+use Rattle.std.specs.Prelude.{◌≡◌, ◌<◌, ◌∷◌, ◌+◌, ◌-ℤ◌, ◌*ℤ◌}
 use Rattle.std.proofs.Math.Path.{refl, fun_ext}
 use Rattle.std.proofs.Common.{sym, ◌∙◌, ap, ap₂, arith, eq-eqb, ne_eqb}
 use Rattle.std.proofs.lemmas.Bool.{false≢true}
 use Rattle.std.proofs.Math.IntN.{+ℤ_idr, +ℤ_comm, +ℤ-neg_ℤ_cancel}
-use Rattle.theory.specs.Basics.{true, List, [], ◌∷◌, replicate, ℕ, zero, suc, ◌+◌, odd, sum, signed}
-use Rattle.theory.specs.Basics.{ℤ, pos, ◌-ℤ◌, ◌*ℤ◌}
+use Rattle.theory.specs.Basics.{true, List, [], replicate, ℕ, zero, suc, odd, sum, signed}
+use Rattle.theory.specs.Basics.{ℤ, pos}
 use Rattle.theory.proofs.Basics.Integers.Products.{times-sums, times-signed, signed-times, times-one}
 use Rattle.theory.specs.Partition.{Parts, is_partition, degree, transposed}
 use Rattle.theory.specs.Partition.Laws.{NoZero, none, some}

@@ -1,11 +1,11 @@
 -- The beta-numbers of digits are those of their rows and of zero rows behind them: a class counts its character there.
 --   digit_ls ds      to each zero, how many digits are behind it; digit_betas ds, the same as whole numbers
-use Rattle.std.specs.Prelude.{◌≡◌, refl}
+use Rattle.std.specs.Prelude.{◌≡◌, refl, ◌∷◌, ◌++◌, ◌+◌}
 use Rattle.std.proofs.Common.{sym, ◌∙◌, ap, arith, length-append}
 use Rattle.std.proofs.Math.Dec.{eqb-suc-zero}
 use Rattle.std.proofs.lemmas.List.{length-map}
-use Rattle.theory.specs.Basics.{true, false, cond, List, [], ◌∷◌, ◌++◌, map, length, replicate}
-use Rattle.theory.specs.Basics.{ℕ, zero, suc, ◌+◌, ℤ, pos, ◌=?◌}
+use Rattle.theory.specs.Basics.{true, false, cond, List, [], map, length, replicate}
+use Rattle.theory.specs.Basics.{ℕ, zero, suc, ℤ, pos, ◌=?◌}
 use Rattle.theory.specs.Partition.{Parts}
 use Rattle.theory.specs.Partition.Laws.{NoZero}
 use Rattle.theory.specs.Digits.{Digits, ones, zeros}

@@ -1,9 +1,9 @@
 -- No character of degree n exceeds n! in size (document 01, "The character"), and a step stays within n! and S(n)
 -- ("S(0) = 0 and S(d) = 1 + d S(d-1)", "Sound").
 --   Bounded c ds   it holds of the shape of the digits ds on the class c
-use Rattle.std.specs.Prelude.{◌≡◌, refl, ◌≤◌}
+use Rattle.std.specs.Prelude.{◌≡◌, refl, ◌≤◌, ◌∷◌, ◌+◌, ◌-◌, ◌*◌}
 use Rattle.std.proofs.Common.{◌∙◌, ap, zero-le, le_refl, le_trans, arith, eq-eqb}
-use Rattle.theory.specs.Basics.{true, [], ◌∷◌, map, length, ℕ, suc, ◌+◌, ◌-◌, ◌*◌, total, sum, ℤ}
+use Rattle.theory.specs.Basics.{true, [], map, length, ℕ, suc, total, sum, ℤ}
 use Rattle.theory.specs.Basics.{nat_abs, signed, Each}
 use Rattle.theory.proofs.Basics.Laws.{each_same, total-same}
 use Rattle.theory.specs.Partition.{Parts, is_partition, degree}

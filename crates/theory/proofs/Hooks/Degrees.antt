@@ -1,11 +1,11 @@
 -- A character degree is at least 1 and at most n! (document 01, "Character degree of a shape"): each hook of length 1
 -- has a plus, and a shape that has a row has such a hook.
-use Rattle.std.specs.Prelude.{◌≡◌, refl, ◌<◌, ◌≤◌}
+use Rattle.std.specs.Prelude.{◌≡◌, refl, ◌<◌, ◌≤◌, ◌∷◌, ◌+◌, ◌+ℤ◌}
 use Rattle.std.proofs.Common.{sym, ap, arith}
 use Rattle.std.proofs.Math.IntN.{+ℤ_idr}
 use Rattle.std.proofs.lemmas.List.{length-map}
-use Rattle.theory.specs.Basics.{false, true, List, [], ◌∷◌, replicate, length, ℕ, zero, suc, ◌+◌, sum, signed}
-use Rattle.theory.specs.Basics.{ℤ, pos, ◌+ℤ◌, nat_abs, Each}
+use Rattle.theory.specs.Basics.{false, true, List, [], replicate, length, ℕ, zero, suc, sum, signed}
+use Rattle.theory.specs.Basics.{ℤ, pos, nat_abs, Each}
 use Rattle.theory.proofs.Basics.Laws.{each_append, each_map, each_same, each_both}
 use Rattle.theory.specs.Partition.{degree}
 use Rattle.theory.proofs.Partition.Laws.{no-degree}

@@ -1,10 +1,10 @@
 -- Evaluation by hooks: the cycles are struck in any order, another one at each shape on the way if one likes, and what
 -- it comes to is the character (document 01, "The character", first paragraph; "Hook of length h").
 --   Evaluation c ds x   by hooks, the shape of the digits ds comes to x on the class c
-use Rattle.std.specs.Prelude.{◌≡◌, refl}
+use Rattle.std.specs.Prelude.{◌≡◌, refl, ◌∷◌}
 use Rattle.std.proofs.Common.{sym, ◌∙◌, ap, arith, eq-eqb}
 use mathlib.Core.List.{Memᴰ}
-use Rattle.theory.specs.Basics.{[], ◌∷◌, ℕ, suc, ℤ, pos, sum, signed}
+use Rattle.theory.specs.Basics.{[], ℕ, suc, ℤ, pos, sum, signed}
 use Rattle.theory.proofs.Basics.Laws.{each_member, each_of, sum_same}
 use Rattle.theory.specs.Partition.{Parts, degree, times, without}
 use Rattle.theory.specs.Partition.Laws.{NoZero, none, some}

@@ -4,7 +4,7 @@
 --   first_hook d ds    the hook of length k + 1 of a digit d in front of ds, if there is one
 --   across f d ds e   what the hook of d and e with ds between them counts, if it has that length
 --   last_hook f ds e   what the hook of a digit e behind ds counts: flipped, it is a first hook
-use Rattle.std.specs.Prelude.{◌≡◌, refl}
+use Rattle.std.specs.Prelude.{◌≡◌, refl, ◌∷◌, ◌++◌, ◌+◌, ◌+ℤ◌}
 use Rattle.std.proofs.Common.{sym, ◌∙◌, ap, append_assoc, arith, eq-eqb, ne_eqb, length-append, drop_of_length-le, drop-cons, take_at, drop_at}
 use Rattle.std.proofs.Math.Path.{fun_ext}
 use Rattle.std.proofs.Math.Bool.{not-not}
@@ -12,8 +12,8 @@ use Rattle.std.proofs.Math.Decide.{ℕ_discrete, dec_lt}
 use Rattle.std.proofs.Math.Seq.{drop-nil}
 use Rattle.std.proofs.lemmas.List.{take-append-le, drop-append-le}
 use Rattle.std.proofs.Math.IntN.{+ℤ_idl, +ℤ_idr}
-use Rattle.theory.specs.Basics.{Bool, true, false, not, cond, List, [], ◌∷◌, ◌++◌, map, take, drop}
-use Rattle.theory.specs.Basics.{length, get_or, ℕ, suc, ◌+◌, ℤ, pos, ◌+ℤ◌, ◌=?◌, odd, sum, signed}
+use Rattle.theory.specs.Basics.{Bool, true, false, not, cond, List, [], map, take, drop}
+use Rattle.theory.specs.Basics.{length, get_or, ℕ, suc, ℤ, pos, ◌=?◌, odd, sum, signed}
 use Rattle.theory.proofs.Basics.Laws.{sum-append, sum-map}
 use Rattle.theory.specs.Basics.Integers.{sums}
 use Rattle.theory.proofs.Basics.Integers.{signed-zero, signed-sum, signed_back}

@@ -1,11 +1,11 @@
 -- Laws of hooks, on digits and for any length h: what a hook leaves, and how many hooks there are.
 --   Exchange h ds hook   what the hook leaves has as many digits and as many ones as ds, and h pairs fewer
-use Rattle.std.specs.Prelude.{◌≡◌, refl, ◌≤◌}
+use Rattle.std.specs.Prelude.{◌≡◌, refl, ◌≤◌, ◌∷◌, ◌++◌, ◌+◌}
 use Rattle.std.proofs.Common.{ap, le_trans, arith, length-append, length-take, take-append-drop, drop_of_length-le, eq-eqb, ne_eqb}
 use Rattle.std.proofs.Math.Decide.{ℕ_discrete, dec_lt}
 use Rattle.std.proofs.lemmas.List.{length-map}
-use Rattle.theory.specs.Basics.{Bool, true, false, List, [], ◌∷◌, ◌++◌, take, drop, length}
-use Rattle.theory.specs.Basics.{ℕ, zero, suc, ◌+◌, Each}
+use Rattle.theory.specs.Basics.{Bool, true, false, List, [], take, drop, length}
+use Rattle.theory.specs.Basics.{ℕ, zero, suc, Each}
 use Rattle.theory.proofs.Basics.Laws.{each_append, each_map}
 use Rattle.theory.specs.Partition.{degree}
 use Rattle.theory.proofs.Partition.Laws.{length-degree}

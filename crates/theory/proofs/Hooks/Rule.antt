@@ -1,15 +1,15 @@
 -- The hook rule: any cycle of the class may be struck by its hooks (document 01, "Hook of length h").
 -- A struck beta-number lands on a one, on a zero, or below all digits; the first is a hook, the others count nothing.
 --   counts f hook    what the hook counts, with its sign, where beta-numbers l count f l
-use Rattle.std.specs.Prelude.{◌≡◌, refl, ◌<◌, ◌≤◌}
+use Rattle.std.specs.Prelude.{◌≡◌, refl, ◌<◌, ◌≤◌, ◌∷◌, ◌++◌, ◌-◌, ◌-ℤ◌}
 use Rattle.std.proofs.Common.{sym, ◌∙◌, ap, arith, lt-ltb, le-ltb, length-drop, drop_of_length-le, drop-cons}
 use Rattle.std.proofs.Math.Path.{fun_ext}
 use Rattle.std.proofs.Math.Decide.{dec_lt}
 use Rattle.std.proofs.lemmas.List.{length-map}
 use Rattle.std.proofs.Math.Seq.{split_at}
 use Rattle.std.proofs.Math.IntN.{+ℤ_idr}
-use Rattle.theory.specs.Basics.{Bool, true, false, List, [], ◌∷◌, ◌++◌, map, take, drop, length, get_or}
-use Rattle.theory.specs.Basics.{ℕ, zero, suc, ◌-◌, ℤ, pos, negsuc, ◌-ℤ◌, neg_ℤ, odd, sum, signed}
+use Rattle.theory.specs.Basics.{Bool, true, false, List, [], map, take, drop, length, get_or}
+use Rattle.theory.specs.Basics.{ℕ, zero, suc, ℤ, pos, negsuc, neg_ℤ, odd, sum, signed}
 use Rattle.theory.proofs.Basics.Laws.{odd-suc, sum_same, sum-append, sum-map}
 use Rattle.theory.proofs.Basics.Integers.{signed-not, signed-zero}
 use Rattle.theory.specs.Partition.{Parts, times, without}

@@ -2,13 +2,13 @@
 -- The laws that go digit by digit rest on this.
 --   led d hook               the hook with the digit d in front of what it leaves
 --   hook_over between after   behind a zero: a hook if `after` begins with a one; the zero and that one are exchanged
-use Rattle.std.specs.Prelude.{◌≡◌, refl, ◌≤◌}
+use Rattle.std.specs.Prelude.{◌≡◌, refl, ◌≤◌, ◌&&◌, ◌∷◌, ◌++◌, ◌+◌, ◌-◌}
 use Rattle.std.proofs.lemmas.List.{map-append, set_split}
 use Rattle.std.proofs.Common.{add-zero, arith, drop_of_length-le, drop-cons}
 use Rattle.std.proofs.Math.Decide.{dec_lt}
 use Rattle.std.proofs.Math.ListN.{get_or-eq_default}
-use Rattle.theory.specs.Basics.{Bool, true, false, not, cond, ◌&&◌, List, [], ◌∷◌, ◌++◌, map, take, drop, get_or}
-use Rattle.theory.specs.Basics.{length, ℕ, zero, suc, ◌+◌, ◌-◌, odd, joined, up_from}
+use Rattle.theory.specs.Basics.{Bool, true, false, not, cond, List, [], map, take, drop, get_or}
+use Rattle.theory.specs.Basics.{length, ℕ, zero, suc, odd, joined, up_from}
 use Rattle.theory.specs.Digits.{Digits, zeros}
 use Rattle.theory.specs.Hooks.{Hook, hook_at, hooks}
 

@@ -1,9 +1,9 @@
 -- Hooks of words (document 01, "Hook of length h"; "so that the word is again a good one"), for any word w.
-use Rattle.std.specs.Prelude.{◌≡◌, refl, ◌≤◌}
+use Rattle.std.specs.Prelude.{◌≡◌, refl, ◌≤◌, ◌∷◌}
 use Rattle.std.proofs.Common.{sym, ◌∙◌, ap, arith, eq-eqb}
 use mathlib.Core.List.{map-map}
 use Rattle.std.proofs.lemmas.List.{length-map}
-use Rattle.theory.specs.Basics.{◌∷◌, map, length, ℕ, sum, signed, Each}
+use Rattle.theory.specs.Basics.{map, length, ℕ, sum, signed, Each}
 use Rattle.theory.proofs.Basics.Laws.{each_map, map_same, sum-map, sum_same}
 use Rattle.theory.specs.Partition.{Parts, degree, times, without}
 use Rattle.theory.specs.Partition.Laws.{NoZero}

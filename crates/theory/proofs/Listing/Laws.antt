@@ -1,12 +1,12 @@
 -- How the listing is built, and how many partitions it has.
 --   partitions_up_to p n   the partitions of n whose parts are at most p; count_most p n, how many there are
 --   Built p n list       how they grow: those whose first part is p, and then those whose parts are below p
-use Rattle.std.specs.Prelude.{◌≡◌, refl, ◌≤◌, ◌<◌}
+use Rattle.std.specs.Prelude.{◌≡◌, refl, ◌≤◌, ◌<◌, ◌∷◌, ◌++◌, ◌+◌, ◌-◌}
 use Rattle.std.proofs.Common.{sym, ◌∙◌, ap, ap₂, le_refl, arith, length-append, le-leb}
 use Rattle.std.proofs.Math.Decide.{dec_le, ℕ_discrete}
 use Rattle.std.proofs.lemmas.List.{length-map}
 use Rattle.std.proofs.lemmas.Bool.{lt-leb}
-use Rattle.theory.specs.Basics.{true, List, [], ◌∷◌, ◌++◌, map, ℕ, zero, suc, ◌+◌, ◌-◌, length, get_or}
+use Rattle.theory.specs.Basics.{true, List, [], map, ℕ, zero, suc, length, get_or}
 use Rattle.theory.specs.Basics.AtPlace.{tabled}
 use Rattle.theory.proofs.Basics.AtPlace.{tabled-at}
 use Rattle.theory.specs.Partition.{Parts}

@@ -1,8 +1,8 @@
 -- The listing is in decreasing lexicographic order, and class words rise along it.
 --   Falling list   each of the list stands before all that follow it
-use Rattle.std.specs.Prelude.{◌≡◌, refl, ◌≤◌, ◌<◌}
+use Rattle.std.specs.Prelude.{◌≡◌, refl, ◌≤◌, ◌<◌, ◌∷◌, ◌++◌, ◌-◌, ◌^◌}
 use Rattle.std.proofs.Common.{arith, pow_mono}
-use Rattle.theory.specs.Basics.{true, List, [], ◌∷◌, ◌++◌, map, ℕ, zero, suc, ◌-◌, ◌^◌, length, get_or, Each}
+use Rattle.theory.specs.Basics.{true, List, [], map, ℕ, zero, suc, length, get_or, Each}
 use Rattle.theory.proofs.Basics.Laws.{each_append, each_same, each_map}
 use Rattle.theory.proofs.Basics.AtPlace.{each_at}
 use Rattle.theory.specs.Partition.{Parts, first, is_partition, degree}

@@ -2,13 +2,13 @@
 --   rank_from p n ps    where ps stands in partitions_up_to p n: for each part, those with a larger one are counted
 --   Stands list i ps   ps stands at place i of the list
 --   AtRank n i ps      ps is a partition of n, and its rank is i
-use Rattle.std.specs.Prelude.{◌≡◌, refl, ◌≤◌, ◌<◌}
+use Rattle.std.specs.Prelude.{◌≡◌, refl, ◌≤◌, ◌<◌, ◌∷◌, ◌++◌, ◌+◌, ◌-◌}
 use Rattle.std.proofs.Common.{◌∙◌, ap, zero-add, arith, length-append, get_or-append-add, eq-eqb, ne_eqb}
 use Rattle.std.proofs.Math.Nat.{sub_self}
 use Rattle.std.proofs.Math.Decide.{ℕ_discrete}
 use Rattle.std.proofs.lemmas.List.{length-map}
 use Rattle.std.proofs.Math.ListN.{get_or-append}
-use Rattle.theory.specs.Basics.{true, false, List, [], ◌∷◌, ◌++◌, map, ℕ, zero, suc, ◌+◌, ◌-◌, length, get_or, same}
+use Rattle.theory.specs.Basics.{true, false, List, [], map, ℕ, zero, suc, length, get_or, same}
 use Rattle.theory.proofs.Basics.Laws.{same_self}
 use Rattle.theory.proofs.Basics.AtPlace.{each_at, map_at}
 use Rattle.theory.specs.Partition.{Parts, is_partition, degree}

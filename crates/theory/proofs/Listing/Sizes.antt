@@ -2,10 +2,10 @@
 -- up to the largest limit.
 --   exact class        the size times what n! is divided by is n! again
 --   all-below test m   all numbers below m pass the test
-use Rattle.std.specs.Prelude.{◌≡◌, refl, ◌≤◌, ◌<◌}
+use Rattle.std.specs.Prelude.{◌≡◌, refl, ◌≤◌, ◌<◌, ◌&&◌, ◌*◌}
 use Rattle.std.proofs.Math.Decide.{ℕ_discrete}
 use Rattle.std.proofs.Common.{arith, eqb-true}
-use Rattle.theory.specs.Basics.{Bool, true, ◌&&◌, [], ℕ, zero, suc, ◌*◌, ◌=?◌, every}
+use Rattle.theory.specs.Basics.{Bool, true, [], ℕ, zero, suc, ◌=?◌, every}
 use Rattle.theory.proofs.Basics.Laws.{both}
 use Rattle.theory.proofs.Basics.AtPlace.{every-at}
 use Rattle.theory.specs.Partition.{Parts, is_partition, degree}

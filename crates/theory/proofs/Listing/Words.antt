@@ -1,12 +1,12 @@
 -- Shape words along the listing, and the words of all shapes of small degrees in one list.
 --   Ranked n i w   w is a good shape word, of degree n, and the rank of its shape is i
 --   index w        where w stands in words_below m, if it is good and the degree of its shape is below m
-use Rattle.std.specs.Prelude.{◌≡◌, refl, ◌≤◌, ◌<◌}
+use Rattle.std.specs.Prelude.{◌≡◌, refl, ◌≤◌, ◌<◌, ◌∷◌, ◌+◌, ◌-◌}
 use Rattle.std.proofs.Common.{◌∙◌, ap, le_refl, arith, length-append, get_or-append-add}
 use Rattle.std.proofs.Math.Decide.{ℕ_discrete}
 use Rattle.std.proofs.lemmas.List.{length-map}
 use Rattle.std.proofs.Math.ListN.{get_or-append}
-use Rattle.theory.specs.Basics.{true, List, [], ◌∷◌, map, ℕ, zero, suc, ◌+◌, ◌-◌, length, get_or, take, total}
+use Rattle.theory.specs.Basics.{true, List, [], map, ℕ, zero, suc, length, get_or, take, total}
 use Rattle.theory.proofs.Basics.AtPlace.{map_at}
 use Rattle.theory.specs.Partition.{degree}
 use Rattle.theory.specs.Digits.{width}

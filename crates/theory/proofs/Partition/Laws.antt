@@ -1,12 +1,12 @@
 -- Laws of part lists.
 --   Front p ps   what is_partition says of a first part p and the parts ps behind it
 --   Split m ps   where m stands among the parts: those before it and those behind it, which are left without it
-use Rattle.std.specs.Prelude.{◌≡◌, refl, ◌<◌, ◌≤◌}
+use Rattle.std.specs.Prelude.{◌≡◌, refl, ◌<◌, ◌≤◌, ◌&&◌, ◌∷◌, ◌++◌, ◌+◌}
 use Rattle.std.proofs.Common.{ap, ◌∙◌, arith, leb-true, ltb-true, le-leb, lt-ltb, eq-eqb, ne_eqb}
 use Rattle.std.proofs.lemmas.Bool.{false≢true, lt-leb}
 use Rattle.std.proofs.Math.Decide.{ℕ_discrete}
 use Rattle.std.proofs.Math.Dec.{eqb-suc-zero}
-use Rattle.theory.specs.Basics.{Bool, true, false, ◌&&◌, [], ◌∷◌, ◌++◌, ℕ, zero, suc, ◌+◌, length, drop}
+use Rattle.theory.specs.Basics.{Bool, true, false, [], ℕ, zero, suc, length, drop}
 use Rattle.theory.specs.Basics.{◌<?◌, ◌≤?◌}
 use Rattle.theory.proofs.Basics.Laws.{both}
 use Rattle.theory.specs.Partition.{Parts, first, is_partition, degree, times, without}

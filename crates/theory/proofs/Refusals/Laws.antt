@@ -1,10 +1,10 @@
 -- What it tells that no check refuses, and what an answer is that is refused or given.
 -- A shape word that no check refuses has such a good word.
-use Rattle.std.specs.Prelude.{◌≡◌, refl, ◌≤◌, ◌<◌}
+use Rattle.std.specs.Prelude.{◌≡◌, refl, ◌≤◌, ◌<◌, ◌∷◌, ◌++◌}
 use Rattle.std.proofs.Common.{sym, ◌∙◌, ap, arith, ltb-false, eqb-true, eq-eqb, ltb-true, le-ltb}
 use Rattle.std.proofs.Math.Decide.{ℕ_discrete}
 use Rattle.std.proofs.lemmas.Bool.{not-false}
-use Rattle.theory.specs.Basics.{Bool, true, false, cond, List, [], ◌∷◌, ◌++◌, ℕ, zero, suc, ◌=?◌, ◌<?◌, every}
+use Rattle.theory.specs.Basics.{Bool, true, false, cond, List, [], ℕ, zero, suc, ◌=?◌, ◌<?◌, every}
 use Rattle.theory.specs.Basics.{Each}
 use Rattle.theory.proofs.Basics.Laws.{both}
 use Rattle.theory.specs.Partition.{degree}

@@ -4,12 +4,12 @@
 --   Ends l          every way from l ends: a rule applies or l is a shape, and every way from what rule 3 makes of l ends
 --   one-if-less     1 where x is less than y, else 0; greater x l, how many entries of l are greater than x
 --   rises l         how many pairs of entries of l have the greater one behind
-use Rattle.std.specs.Prelude.{◌≡◌, ◌≤◌}
+use Rattle.std.specs.Prelude.{◌≡◌, ◌≤◌, ◌∷◌, ◌++◌, ◌+◌, ◌+ℤ◌, ◌-ℤ◌}
 use Rattle.std.proofs.Common.{sym, ◌∙◌, ap, arith}
 use Rattle.std.specs.Int.Signed.{non_neg}
 use Rattle.std.proofs.Math.IntN.{+ℤ_assoc, +ℤ_comm, +ℤ-neg_ℤ_cancel}
-use Rattle.theory.specs.Basics.{cond, List, [], ◌∷◌, ◌++◌, ℕ, zero, suc, ◌+◌, length}
-use Rattle.theory.specs.Basics.{ℤ, pos, negsuc, ◌+ℤ◌, ◌-ℤ◌, neg_ℤ}
+use Rattle.theory.specs.Basics.{cond, List, [], ℕ, zero, suc, length}
+use Rattle.theory.specs.Basics.{ℤ, pos, negsuc, neg_ℤ}
 use Rattle.theory.proofs.Basics.Integers.{difference-back, from-below, more-one, less_one}
 use Rattle.theory.specs.Character.{Term}
 use Rattle.theory.proofs.Character.Alternating.{raised_by}

@@ -2,12 +2,12 @@
 --   Below c l         in order with c in front
 --   InOrder l         in order, and still so with a 0 put behind the last part
 --   PositiveFirst l   no part, or a positive one in front
-use Rattle.std.specs.Prelude.{◌≡◌, refl}
+use Rattle.std.specs.Prelude.{◌≡◌, refl, ◌∷◌, ◌++◌, ◌+◌, ◌+ℤ◌, ◌-ℤ◌}
 use Rattle.std.proofs.Common.{sym, ◌∙◌, ap, subst, arith}
 use Rattle.std.proofs.Math.Dec.{eqb-suc-zero}
 use Rattle.std.proofs.Math.IntN.{pos-ne-negsuc, +ℤ-neg_ℤ_cancel, -ℤ-+ℤ_cancel}
-use Rattle.theory.specs.Basics.{true, List, [], ◌∷◌, ◌++◌, ℕ, zero, suc, ◌+◌, every, ◌=?◌}
-use Rattle.theory.specs.Basics.{ℤ, pos, negsuc, ◌+ℤ◌, ◌-ℤ◌, nat_abs}
+use Rattle.theory.specs.Basics.{true, List, [], ℕ, zero, suc, every, ◌=?◌}
+use Rattle.theory.specs.Basics.{ℤ, pos, negsuc, nat_abs}
 use Rattle.theory.specs.Character.{plus, turn, before, sink, ordered, trimmed}
 use Rattle.theory.proofs.Basics.Integers.{from-difference, from-below, more-one, less_one, swap-back}
 use Rattle.theory.proofs.Character.Terms.{Holds, holds-map, holds-turn, holds_then, sink-cases}

@@ -1,9 +1,9 @@
 -- The definition follows the rules; and however they are followed, they keep an alternating function of beta-numbers.
 --   Ending l   how parts in order end: in a negative part, or as a shape
-use Rattle.std.specs.Prelude.{◌≡◌, refl}
+use Rattle.std.specs.Prelude.{◌≡◌, refl, ◌∷◌, ◌++◌, ◌+ℤ◌, ◌-ℤ◌}
 use Rattle.std.proofs.Common.{sym, ap, subst, append_assoc, zero-add}
 use Rattle.std.proofs.Math.IntN.{+ℤ_idr}
-use Rattle.theory.specs.Basics.{List, [], ◌∷◌, ◌++◌, ℕ, suc, length, ℤ, pos, negsuc, ◌+ℤ◌, ◌-ℤ◌}
+use Rattle.theory.specs.Basics.{List, [], ℕ, suc, length, ℤ, pos, negsuc}
 use Rattle.theory.specs.Character.{Term, nothing, plus, then, before, value, sink, ordered, rule-1, sorted}
 use Rattle.theory.proofs.Basics.Integers.{more-one, less_one}
 use Rattle.theory.proofs.Character.Terms.{value-turn, Holds, holds-map, holds-turn, holds_then}

@@ -1,6 +1,7 @@
 -- A part that sinks follows the rules.
+use Rattle.std.specs.Prelude.{◌∷◌, ◌++◌, ◌+ℤ◌, ◌-ℤ◌}
 use Rattle.std.proofs.Common.{append_assoc}
-use Rattle.theory.specs.Basics.{List, [], ◌∷◌, ◌++◌, ℤ, pos, ◌+ℤ◌, ◌-ℤ◌}
+use Rattle.theory.specs.Basics.{List, [], ℤ, pos}
 use Rattle.theory.specs.Character.{Term, plus, then, before, sink}
 use Rattle.theory.proofs.Basics.Integers.{from-below}
 use Rattle.theory.proofs.Character.Terms.{Holds, holds-turn, holds_then}

@@ -2,12 +2,12 @@
 -- and again as they give the parts of a class word with these digits.
 --   rows_after n ps   the rows of a shape word with n ones, whose zeros stand where the parts ps end
 --   complement n x   the n lowest bits of x, complemented up to the last one
-use Rattle.std.specs.Prelude.{◌≡◌, refl, ◌≤◌, ◌<◌}
+use Rattle.std.specs.Prelude.{◌≡◌, refl, ◌≤◌, ◌<◌, ◌∷◌, ◌+◌, ◌-◌, ◌*◌, ◌/◌, ◌^◌}
 use Rattle.std.proofs.Common.{sym, ◌∙◌, ap, zero-add, arith, pow-add, shr_lt}
 use Rattle.std.specs.Int.Count.{count_trailing_zeros}
 use Rattle.std.proofs.lemmas.Nat.{trailing_le}
 use Rattle.std.proofs.Math.Pow.{split}
-use Rattle.theory.specs.Basics.{true, false, not, [], ◌∷◌, map, ℕ, zero, suc, ◌+◌, ◌-◌, ◌*◌, ◌/◌, ◌^◌}
+use Rattle.theory.specs.Basics.{true, false, not, [], map, ℕ, zero, suc}
 use Rattle.theory.specs.Partition.{Parts}
 use Rattle.theory.specs.Digits.{Digits, digits, ones, up_to_last_one}
 use Rattle.theory.proofs.Digits.LastOne.{LastOne, none, some, last}

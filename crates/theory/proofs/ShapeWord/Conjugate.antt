@@ -2,13 +2,13 @@
 --   flipped ds     the digits in reverse order and complemented; conjugate ds is flipped (up_to_last_one ds)
 --   all_rows ds     as rows ds, and a zero without a one after it is a row too, of length 0
 --   columns i n ps   the n columns from column i; transposed ps is columns 1 (first ps) ps
-use Rattle.std.specs.Prelude.{◌≡◌, refl, ◌≤◌, ◌<◌}
+use Rattle.std.specs.Prelude.{◌≡◌, refl, ◌≤◌, ◌<◌, ◌∷◌, ◌++◌, ◌+◌, ◌^◌}
 use Rattle.std.proofs.Common.{sym, ◌∙◌, ap, ap₂, ⊎_elim, arith, pow_pos, le-leb}
 use Rattle.std.proofs.Math.Bool.{not-not}
 use mathlib.Core.List.{reverse-cons, reverse-append, map-append}
 use Rattle.std.proofs.lemmas.List.{length-map, length-reverse}
 use Rattle.std.proofs.lemmas.Bool.{lt-leb}
-use Rattle.theory.specs.Basics.{Bool, true, false, not, [], ◌∷◌, ◌++◌, map, reverse, ℕ, zero, suc, ◌+◌, ◌^◌}
+use Rattle.theory.specs.Basics.{Bool, true, false, not, [], map, reverse, ℕ, zero, suc}
 use Rattle.theory.specs.Basics.{length, replicate, ◌≤?◌, count, up_from}
 use Rattle.theory.proofs.Basics.Laws.{count-append, up-from-one}
 use Rattle.theory.specs.Partition.{Parts, first, is_partition, degree, transposed}

@@ -1,11 +1,11 @@
 -- What counts of zeros and ones tell of a shape word: leading zeros its degree, trailing zeros and ones the number of
 -- its rows. Leading zeros, which give the next one again and again, give the parts of the class word with these digits.
 --   pairs_after z ps   the pairs of a zero and a later one, of ones that stand as the parts ps do, behind z zeros more
-use Rattle.std.specs.Prelude.{◌≡◌}
+use Rattle.std.specs.Prelude.{◌≡◌, ◌∷◌, ◌+◌, ◌-◌, ◌*◌, ◌/◌, ◌^◌}
 use Rattle.std.proofs.Common.{◌∙◌, ap, arith}
 use Rattle.std.specs.Int.Count.{count_trailing_zeros, trailing_of_zero}
 use Rattle.std.proofs.lemmas.Nat.{trailing_le}
-use Rattle.theory.specs.Basics.{true, false, [], ◌∷◌, ℕ, suc, ◌+◌, ◌-◌, ◌*◌, ◌/◌, ◌^◌, length}
+use Rattle.theory.specs.Basics.{true, false, [], ℕ, suc, length}
 use Rattle.theory.specs.Partition.{Parts, degree}
 use Rattle.theory.specs.Digits.{Digits, digits, word, ones}
 use Rattle.theory.proofs.Digits.Laws.{length_digits, word_none}

@@ -1,10 +1,10 @@
 -- The conjugate of digits from the low end: the trailing zeros go, and the other digits are complemented, lowest first.
 --   flips n x   the n lowest bits of x complemented, the lowest first
-use Rattle.std.specs.Prelude.{◌≡◌, ◌≤◌, ◌<◌}
+use Rattle.std.specs.Prelude.{◌≡◌, ◌≤◌, ◌<◌, ◌∷◌, ◌+◌, ◌-◌, ◌*◌, ◌/◌, ◌%◌, ◌^◌}
 use Rattle.std.proofs.Common.{ap, ap₂, ◌∙◌, arith, shl_exact}
 use Rattle.std.proofs.Math.Nat.{sub_self}
 use Rattle.std.specs.Int.Count.{count_trailing_zeros}
-use Rattle.theory.specs.Basics.{not, ◌∷◌, map, reverse, ℕ, zero, suc, ◌+◌, ◌-◌, ◌*◌, ◌/◌, ◌%◌, ◌^◌, ◌=?◌}
+use Rattle.theory.specs.Basics.{not, map, reverse, ℕ, zero, suc, ◌=?◌}
 use Rattle.theory.specs.Digits.{Digits, digits, word}
 use Rattle.theory.proofs.Digits.Laws.{word_none}
 use Rattle.theory.proofs.Digits.Low.{low_first, reverse-digits, last_digits}

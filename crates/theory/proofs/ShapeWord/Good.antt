@@ -1,7 +1,7 @@
 -- A good shape word (document 01, "Good shape words are exactly the numbers below 2^30"), as a record.
-use Rattle.std.specs.Prelude.{◌≡◌}
+use Rattle.std.specs.Prelude.{◌≡◌, ◌^◌}
 use Rattle.std.proofs.Common.{ltb-true, lt-ltb}
-use Rattle.theory.specs.Basics.{true, ℕ, ◌^◌}
+use Rattle.theory.specs.Basics.{true, ℕ}
 use Rattle.theory.specs.ShapeWord.{shape_width, good_shape}
 use Rattle.theory.specs.ShapeWord.Good.{GoodShape}
 

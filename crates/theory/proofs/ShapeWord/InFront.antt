@@ -1,9 +1,9 @@
 -- Words with ones in front (document 02, P6: "give the good word of the same shape and say how many ones it dropped";
 -- "Demand 2's one word is the good one").
-use Rattle.std.specs.Prelude.{◌≡◌, refl, ◌≤◌, ◌<◌}
+use Rattle.std.specs.Prelude.{◌≡◌, refl, ◌≤◌, ◌<◌, ◌∷◌, ◌++◌, ◌+◌, ◌*◌, ◌^◌}
 use Rattle.std.proofs.Common.{sym, ◌∙◌, ap, pow-suc, arith, pow_pos, ltb-true, lt-ltb}
 use Rattle.std.proofs.Math.Nat.{eq_of_mul-eq-mul_right}
-use Rattle.theory.specs.Basics.{true, false, [], ◌∷◌, ◌++◌, ℕ, zero, suc, ◌+◌, ◌*◌, ◌^◌, length, replicate}
+use Rattle.theory.specs.Basics.{true, false, [], ℕ, zero, suc, length, replicate}
 use Rattle.theory.specs.Partition.{degree}
 use Rattle.theory.specs.Digits.{Digits, digits, word, width}
 use Rattle.theory.proofs.Digits.Laws.{digits-word, digits-zero, word-digits, word_below, length_digits}

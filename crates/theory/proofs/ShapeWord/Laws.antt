@@ -1,10 +1,10 @@
 -- Shapes as digits, there and back (document 01, "Shape word").
-use Rattle.std.specs.Prelude.{◌≡◌, refl, ◌≤◌, ◌<◌}
+use Rattle.std.specs.Prelude.{◌≡◌, refl, ◌≤◌, ◌<◌, ◌∷◌, ◌++◌, ◌+◌, ◌-◌}
 use Rattle.std.proofs.Common.{sym, ◌∙◌, ap, ap₂, pos_of_ne-zero, arith, length-append, eq-eqb, ne_eqb}
 use Rattle.std.proofs.Math.Decide.{ℕ_discrete}
 use Rattle.std.proofs.Math.Nat.{sub_self}
 use Rattle.std.proofs.lemmas.List.{length-replicate}
-use Rattle.theory.specs.Basics.{true, false, [], ◌∷◌, ◌++◌, ℕ, zero, suc, ◌+◌, ◌-◌, length, replicate}
+use Rattle.theory.specs.Basics.{true, false, [], ℕ, zero, suc, length, replicate}
 use Rattle.theory.specs.Partition.{Parts, first, is_partition, degree}
 use Rattle.theory.proofs.Partition.Laws.{front, in-front}
 use Rattle.theory.specs.Digits.{Digits, ones, up_to_last_one}

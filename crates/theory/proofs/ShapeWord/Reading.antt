@@ -2,11 +2,11 @@
 --   behind last rs                the digits behind the zero of a row of length `last`, before the rows rs
 --   FirstDigit left x mask rest   what the first of `left` digits of x says of the ones and of the rows: it is a zero
 --                                 where x is below the mask, else a one, and x less the mask has the `rest` digits
-use Rattle.std.specs.Prelude.{◌≡◌, ◌≤◌, ◌<◌}
+use Rattle.std.specs.Prelude.{◌≡◌, ◌≤◌, ◌<◌, ◌∷◌, ◌++◌, ◌+◌, ◌-◌, ◌^◌}
 use Rattle.std.proofs.Common.{sym, ◌∙◌, ap, ⊎_elim, zero-add, suc-add, one-mul, add-sub_of_le, pos_of_ne-zero, arith, pow_mono}
 use Rattle.std.proofs.Math.Nat.{sub-zero}
 use Rattle.std.specs.Int.Count
-use Rattle.theory.specs.Basics.{true, false, [], ◌∷◌, ◌++◌, ℕ, zero, suc, ◌+◌, ◌-◌, ◌^◌, length, replicate}
+use Rattle.theory.specs.Basics.{true, false, [], ℕ, zero, suc, length, replicate}
 use Rattle.theory.specs.Partition.{Parts, first}
 use Rattle.theory.specs.Digits.{Digits, digits, word, ones}
 use Rattle.theory.proofs.Digits.Laws.{digits-zero, digits-one, top-cases, word_none, word-digits}

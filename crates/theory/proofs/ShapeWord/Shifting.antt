@@ -1,14 +1,14 @@
 -- Leading ones as code counts and drops them: a word is shifted by one, so that digit 1 comes to bit 31, and the
 -- leading zeros of its complement are counted; then it is shifted by as many, and bit 31 left out.
 -- Of the library: count_leading_zeros n x is how many zeros begin the n digits of x.
-use Rattle.std.specs.Prelude.{◌≡◌, ◌<◌}
+use Rattle.std.specs.Prelude.{◌≡◌, ◌<◌, ◌∷◌, ◌+◌, ◌-◌, ◌*◌, ◌%◌, ◌^◌}
 use Rattle.std.proofs.Common.{sym, ◌∙◌, ap}
 use Rattle.std.proofs.Math.Nat.{mod-eq_of_lt}
 use native.Mathlib.Omega.{arith}
 use Rattle.std.specs.Int.Count.{count_leading_zeros, leading_unique}
 use Rattle.std.proofs.lemmas.Nat.{leading_top, leading_length}
 use Rattle.std.proofs.Math.Pow.{mod-mod-pow, low, pow_pos}
-use Rattle.theory.specs.Basics.{true, false, [], ◌∷◌, ℕ, suc, ◌+◌, ◌-◌, ◌*◌, ◌%◌, ◌^◌, length}
+use Rattle.theory.specs.Basics.{true, false, [], ℕ, suc, length}
 use Rattle.theory.specs.Digits.{Digits, digits, word, width}
 use Rattle.theory.proofs.Digits.Laws.{word_below, word-digits, length_digits}
 use Rattle.theory.specs.ShapeWord.{shifted, leading_ones, good_word, dropped}

@@ -2,9 +2,9 @@
 --   HasRoom n ps     ps is a partition whose rows and columns have room in n digits
 --   TheShape w rs    rs has room, its word is w, and no other shape that has room has this word
 --   TheWord rs w     w is good, its shape is rs, and no other good word has this shape
-use Rattle.std.specs.Prelude.{◌≡◌, refl, ◌≤◌, ◌<◌}
+use Rattle.std.specs.Prelude.{◌≡◌, refl, ◌≤◌, ◌<◌, ◌∷◌, ◌+◌, ◌^◌}
 use Rattle.std.proofs.Common.{sym, ◌∙◌, ap, arith, pow_pos, eq-eqb, eqb-true}
-use Rattle.theory.specs.Basics.{true, false, [], ◌∷◌, ℕ, suc, ◌+◌, ◌^◌, ◌=?◌, length}
+use Rattle.theory.specs.Basics.{true, false, [], ℕ, suc, ◌=?◌, length}
 use Rattle.theory.proofs.Basics.Keep.{same_test}
 use Rattle.theory.specs.Partition.{Parts, first, is_partition, degree}
 use Rattle.theory.proofs.Partition.Laws.{room, no-degree}

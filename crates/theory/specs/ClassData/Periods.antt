@@ -1,7 +1,8 @@
 -- How the period is computed, part by part (document 02, P2).
 --   multiplier n p    by how much n has to be multiplied so that p divides it: the first such of 1, 2, .., p
 --   period_from n ps   n multiplied, at each of the parts ps in turn, by the multiplier of what has been reached
-use Rattle.theory.specs.Basics.{[], ◌∷◌, ℕ, ◌*◌, ◌%◌, ◌=?◌, keep, up_from}
+use Rattle.std.specs.Prelude.{◌∷◌, ◌*◌, ◌%◌}
+use Rattle.theory.specs.Basics.{[], ℕ, ◌=?◌, keep, up_from}
 use Rattle.theory.specs.Partition.{Parts, first}
 
 abbrev pub multiplier : ℕ → ℕ → ℕ

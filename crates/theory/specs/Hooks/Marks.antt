@@ -7,9 +7,10 @@
 --                      one, those that are not ones
 --   marked_hook h s b   the hook of length h that begins at place b of the word s
 -- Of the library: bit_and x y has the ones that both x and y have; Count.ones x is how many ones x has.
+use Rattle.std.specs.Prelude.{◌∷◌, ◌+◌, ◌-◌, ◌*◌, ◌/◌, ◌%◌, ◌^◌}
 use Rattle.std.specs.Int.Bits.{bit_and}
 use Rattle.std.specs.Int.Count
-use Rattle.theory.specs.Basics.{Bool, cond, List, [], ◌∷◌, ℕ, zero, suc, ◌+◌, ◌-◌, ◌*◌, ◌/◌, ◌%◌, ◌^◌, odd}
+use Rattle.theory.specs.Basics.{Bool, cond, List, [], ℕ, zero, suc, odd}
 use Rattle.theory.specs.Digits.{bit}
 use Rattle.theory.specs.ShapeWord.Shifting.{ones_out}
 use Rattle.theory.specs.Hooks.{Hook}

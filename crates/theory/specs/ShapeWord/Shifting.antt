@@ -3,8 +3,9 @@
 --   ones_before t   how many ones begin the 31 digits of the word t
 --   ones_out t      the word t with these ones shifted out
 -- Of the library: count_leading_zeros n x is how many zeros begin the n digits of x.
+use Rattle.std.specs.Prelude.{◌-◌, ◌*◌, ◌%◌, ◌^◌}
 use Rattle.std.specs.Int.Count.{count_leading_zeros}
-use Rattle.theory.specs.Basics.{ℕ, ◌-◌, ◌*◌, ◌%◌, ◌^◌}
+use Rattle.theory.specs.Basics.{ℕ}
 
 unfoldable pub ones_before : ℕ → ℕ
 ones_before t = count_leading_zeros 32 ((2 ^ 32 - 1) - t * 2 % 2 ^ 32)

@@ -4,8 +4,8 @@
 --   count_within m room          the count of the parts measured, where so many have room
 --   list_checks limit large ps   what a part list is refused by, where `large` refuses a degree above the limit
 --   ListWithin limit ps         ps is a partition, and its degree is within the limit
-use Rattle.std.specs.Prelude.{◌≡◌, ◌≤◌}
-use Rattle.theory.specs.Basics.{true, cond, List, [], ◌∷◌, length, ℕ, ◌<?◌}
+use Rattle.std.specs.Prelude.{◌≡◌, ◌≤◌, ◌∷◌}
+use Rattle.theory.specs.Basics.{true, cond, List, [], length, ℕ, ◌<?◌}
 use Rattle.theory.specs.Partition.{Parts, is_partition, degree}
 use Rattle.theory.specs.Refusals.{Check, first_of, refused_or, no-3-list}
 use Rattle.words.specs.declared.Measure.{Measure}

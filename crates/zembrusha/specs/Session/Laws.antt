@@ -1,8 +1,8 @@
 -- A session through the exports is a session of the calculator, and so demand 3 is true of it, by any faithful form.
 --   Calculated ..   the session of the calculator's calls that are the same, and demand 3 of it
-use Rattle.std.specs.Prelude.{◌≡◌, refl}
+use Rattle.std.specs.Prelude.{◌≡◌, refl, ◌∷◌}
 use Rattle.std.proofs.Common.{ap}
-use Rattle.theory.specs.Basics.{List, [], ◌∷◌, ℕ, zero, suc, ℤ}
+use Rattle.theory.specs.Basics.{List, [], ℕ, zero, suc, ℤ}
 use Rattle.theory.specs.Refusals.{first_of, refused_or}
 use Rattle.theory.specs.Limits.{degree_limit}
 use Rattle.words.specs.Answers.{Outcome}

@@ -1,10 +1,11 @@
 -- `characters::small_tables::row_of_one` meets its contract: the tables of degree 0 and 1 are those that were computed,
 -- and their row is one number.
+use Rattle.std.specs.Prelude.{◌∷◌}
 use mathlib.Core.Path.{refl}
 use native.Mathlib.Omega.{arith}
 use mir.Facts.{to_z-of_z}
 use borrow.Author.Rules.{rules, sfits_of}
-use Rattle.theory.specs.Basics.{ℕ, List, [], ◌∷◌, ℤ, pos}
+use Rattle.theory.specs.Basics.{ℕ, List, [], ℤ, pos}
 use Rattle.theory.specs.Listing.{partition_counts}
 use Rattle.theory.proofs.Listing.Laws.{count_kept}
 use Rattle.characters.specs.Private.SmallTables.{small_tables}

@@ -1,9 +1,10 @@
 -- `characters::small_tables::row_of_two` meets its contract: the row is copied number by number.
+use Rattle.std.specs.Prelude.{◌∷◌}
 use mathlib.Core.Path.{refl}
 use native.Mathlib.Omega.{arith}
 use mir.Facts.{to_z-of_z}
 use borrow.Author.Rules.{rules, sfits_of}
-use Rattle.theory.specs.Basics.{[], ◌∷◌, pos}
+use Rattle.theory.specs.Basics.{[], pos}
 use Rattle.theory.specs.Listing.{partition_counts}
 use Rattle.theory.proofs.Listing.Laws.{count_kept}
 use Rattle.characters.proofs.SmallTables.{row_copied}

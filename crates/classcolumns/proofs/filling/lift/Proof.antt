@@ -1,12 +1,13 @@
 -- `classcolumns::filling::lift` meets its contract: the words of the degree are done one after the other. Their hooks
 -- leave words of a lower degree, whose entries stay.
+use Rattle.std.specs.Prelude.{◌∷◌}
 use mathlib.Core.Path.{◌≡◌, sym, ◌∙◌, ap}
 use Prim.Native.Nat.{suc, ◌+◌, ◌-◌, ◌<◌, ◌≤◌}
 use native.Mathlib.Omega.{arith}
 use borrow.Author.Rules.{rules}
 use Rattle.theory.specs.Listing.{listing, start}
 use Rattle.theory.proofs.Listing.Words.{start-next, start-rises}
-use Rattle.theory.specs.Basics.{◌∷◌, length, drop, get_or}
+use Rattle.theory.specs.Basics.{length, drop, get_or}
 use Rattle.theory.specs.Partition.{degree}
 use Rattle.theory.specs.Limits.{degree_limit}
 use Rattle.listing.specs.declared.SectionAnswer.{SectionAnswer}

@@ -1,8 +1,9 @@
 -- `classcolumns::lookup::place` meets its contract: it reads place_of off, which is below the count of places.
+use Rattle.std.specs.Prelude.{◌+◌, ◌/◌, ◌%◌, ◌^◌}
 use mathlib.Core.Path.{◌≡◌, ◌∙◌, ap}
 use native.Mathlib.Omega.{arith}
 use borrow.Author.Rules.{rules}
-use Rattle.theory.specs.Basics.{List, ℕ, ◌+◌, ◌/◌, ◌%◌, ◌^◌, get_or, length}
+use Rattle.theory.specs.Basics.{List, ℕ, get_or, length}
 use Rattle.theory.proofs.ShapeWord.Good.{good-shape}
 use Rattle.classcolumns.specs.Private.Places.{place_of, eight_digits}
 use Rattle.classcolumns.proofs.PlaceLaws.{displacements-length, place-below}

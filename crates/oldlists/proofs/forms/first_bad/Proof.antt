@@ -1,10 +1,11 @@
 -- `oldlists::forms::first_bad` meets its contract. The first bad word of the list is that of the words not judged yet.
+use Rattle.std.specs.Prelude.{◌+◌, ◌-◌}
 use native.Mathlib.Omega.{arith}
 use mathlib.Core.Path.{◌≡◌, refl, sym, ap, ◌∙◌}
 use Prim.Native.Nat.{◌<◌}
 use native.Mathlib.Numerals.{add-one}
 use borrow.Author.Rules.{rules}
-use Rattle.theory.specs.Basics.{Bool, List, ℕ, length, get_or, drop, ◌+◌, ◌-◌}
+use Rattle.theory.specs.Basics.{Bool, List, ℕ, length, get_or, drop}
 use Rattle.theory.specs.Limits.{degree_limit}
 use Rattle.theory.specs.Refusals.{first_of, refused_or}
 use Rattle.theory.proofs.Refusals.Laws.{or-refused, or-given}

@@ -1,12 +1,13 @@
 -- `oldlists::forms::moved` meets its contract: refused for the lengths or for a word, or each word is written.
+use Rattle.std.specs.Prelude.{◌∷◌}
 use mathlib.Core.Logic.{⊎_elim}
 use mathlib.Core.Path.{◌≡◌, sym, ap, ◌∙◌}
 use borrow.Author.Rules.{rules}
-use Rattle.theory.specs.Basics.{Bool, List, [], ◌∷◌, ℕ}
+use Rattle.theory.specs.Basics.{Bool, List, [], ℕ}
 use Rattle.theory.specs.Limits.{degree_limit}
 use Rattle.theory.specs.Refusals.{first_of, no-20}
 use Rattle.oldlists.specs.Lists.{ListAnswer}
-use Rattle.oldlists.specs.Lists.Laws.{none-bad}
+use Rattle.oldlists.proofs.Lists.Laws.{none-bad}
 use Rattle.oldlists.specs.Private.Forms.{form_checks, other_form}
 use Rattle.oldlists.proofs.MovedLists.{lengths_differ, list-long, list-short}
 use Rattle.oldlists.proofs.MovedLists.{lengths-refused, word-refused, words-moved}

@@ -1,11 +1,12 @@
 -- `oldlists::forms::new_word` meets its contract. What is left of the ones, and the rows that are not read yet behind
 -- the one read last, make the whole word.
+use Rattle.std.specs.Prelude.{◌∷◌, ◌++◌, ◌+◌, ◌-◌, ◌*◌, ◌%◌, ◌^◌}
 use native.Mathlib.Omega.{arith}
 use mathlib.Core.Path.{◌≡◌, sym, ap, ◌∙◌}
 use Prim.Native.Nat.{◌≤◌, ◌<◌}
 use borrow.Author.Rules.{rules}
 use lib.Count.{count_leading_zeros}
-use Rattle.theory.specs.Basics.{true, [], ◌∷◌, ◌++◌, ℕ, suc, ◌+◌, ◌-◌, ◌*◌, ◌%◌, ◌^◌, length, replicate}
+use Rattle.theory.specs.Basics.{true, [], ℕ, suc, length, replicate}
 use Rattle.theory.specs.Partition.{Parts, first, is_partition}
 use Rattle.theory.proofs.Partition.Laws.{front}
 use Rattle.theory.specs.Digits.{word}

@@ -1,13 +1,13 @@
 -- `oldlists::forms::old_word` meets its contract. The digits complemented have a one for each row; the rows that are
 -- not read yet are those that are not written yet.
+use Rattle.std.specs.Prelude.{◌+◌, ◌-◌, ◌*◌, ◌%◌, ◌^◌}
 use native.Mathlib.Omega.{arith}
 use mathlib.Core.Path.{◌≡◌, sym, ap, ◌∙◌}
 use Prim.Native.Nat.{◌≤◌, ◌<◌}
 use borrow.Author.Rules.{rules}
 use lib.Count
 use lib.Pow.{pow_pos}
-use Rattle.theory.specs.Basics.{ℕ, ◌+◌, ◌-◌, ◌*◌, ◌%◌, ◌^◌}
-use Rattle.theory.specs.Digits.{digits}
+use Rattle.theory.specs.Basics.{ℕ}
 use Rattle.theory.proofs.Digits.Laws.{word_below, word_none, one_shifted}
 use Rattle.theory.proofs.Digits.Low.{trailing-more}
 use Rattle.theory.specs.ClassWord.{class_digits, class_word}

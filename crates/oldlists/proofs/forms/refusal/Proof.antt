@@ -1,10 +1,11 @@
 -- `oldlists::forms::refusal` meets its contract: a word in the new form that is not good is refused 1, and any other
 -- word as its degree is refused.
+use Rattle.std.specs.Prelude.{◌^◌}
 use mathlib.Core.Path.{◌∙◌}
 use native.Mathlib.Omega.{arith}
 use borrow.Author.Rules.{rules}
 use borrow.Author.Tests.{lt-ltb, le-ltb}
-use Rattle.theory.specs.Basics.{ℕ, ◌^◌}
+use Rattle.theory.specs.Basics.{ℕ}
 use Rattle.theory.specs.ShapeWord.{shape_width}
 use Rattle.theory.specs.Limits.{degree_limit}
 use Rattle.theory.specs.Refusals.{shape_checks, class_checks}

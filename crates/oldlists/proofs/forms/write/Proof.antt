@@ -1,10 +1,11 @@
 -- `oldlists::forms::write` meets its contract. The first words stand in their places; those left go to the places
 -- behind.
+use Rattle.std.specs.Prelude.{◌-◌}
 use native.Mathlib.Omega.{arith}
 use mathlib.Core.Path.{ap}
 use borrow.Author.Rules.{rules}
 use lib.ListN.{length-map}
-use Rattle.theory.specs.Basics.{map, length, drop, ◌-◌}
+use Rattle.theory.specs.Basics.{map, length, drop}
 use Rattle.theory.proofs.Basics.AtPlace.{each_at}
 use Rattle.theory.specs.Limits.{degree_limit}
 use Rattle.theory.specs.OldForm.Laws.{Passes}

@@ -1,10 +1,11 @@
 -- `pages::degrees::read` meets its contract: what is read has the degree 0 where it is refused, and a shape word that
 -- is not good is not read.
+use Rattle.std.specs.Prelude.{◌^◌}
 use mathlib.Core.Path.{ap}
 use native.Mathlib.Omega.{arith}
 use borrow.Author.Rules.{rules}
 use borrow.Author.Tests.{lt-ltb, le-ltb}
-use Rattle.theory.specs.Basics.{ℕ, ◌^◌}
+use Rattle.theory.specs.Basics.{ℕ}
 use Rattle.theory.specs.ShapeWord.{shape_width}
 use Rattle.theory.specs.Limits.{degree_limit}
 use Rattle.words.specs.declared.ShapeReading.{ShapeReading}

@@ -1,4 +1,5 @@
 -- `pages::paying::first` meets its contract: each test stops at no budget, or leaves it to those behind it.
+use Rattle.std.specs.Prelude.{◌^◌}
 use mathlib.Core.Path.{◌≡◌, sym, ◌∙◌, ap}
 use Prim.Native.Nat.{◌≤◌}
 use native.Mathlib.Omega.{arith}
@@ -9,7 +10,7 @@ use mir.Syntax.{w64}
 use mir.Val.{SFits}
 use borrow.Author.Rules.{rules}
 use borrow.Author.Tests.{not-true, not-false, lt-ltb, le-ltb}
-use Rattle.theory.specs.Basics.{true, ◌^◌}
+use Rattle.theory.specs.Basics.{true}
 use Rattle.theory.specs.Partition.{degree}
 use Rattle.theory.specs.ShapeWord.{good_shape, shape_width}
 use Rattle.theory.specs.Limits.{degree_limit}

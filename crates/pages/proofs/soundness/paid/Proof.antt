@@ -1,8 +1,9 @@
 -- `pages::soundness::paid` meets its contract: each test stops at no budget, or leaves it to those behind it.
+use Rattle.std.specs.Prelude.{◌*◌}
 use mathlib.Core.Path.{◌≡◌, sym, ◌∙◌}
 use native.Mathlib.Nat.{one-mul}
 use borrow.Author.Rules.{rules}
-use Rattle.theory.specs.Basics.{get_or, ◌*◌}
+use Rattle.theory.specs.Basics.{get_or}
 use Rattle.theory.specs.Bounds.{factorial}
 use Rattle.pages.proofs.Budgets.{no_line, too-dear, too_long, all_paid}
 use Rattle.pages.proofs.SpanTable.{tabled-is}

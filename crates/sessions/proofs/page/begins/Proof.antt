@@ -1,7 +1,8 @@
 -- `sessions::page::begins` meets its contract: what is still to be compared decides as the whole does.
+use Rattle.std.specs.Prelude.{◌-◌}
 use mathlib.Core.Path.{◌≡◌, refl, sym, ◌∙◌}
 use borrow.Author.Rules.{rules}
-use Rattle.theory.specs.Basics.{length, drop, ◌-◌}
+use Rattle.theory.specs.Basics.{length, drop}
 use Rattle.sessions.proofs.Pages.{begins, ends-before, differs, agrees, all-agree}
 use Rattle.sessions.proofs.page.begins.Statement.{statement}
 use Rattle.sessions.proofs.page.begins.Tie as tie

@@ -1,8 +1,9 @@
 -- `sessiontext::coefficients::first_fault` meets its contract: what is left of the text is to be judged.
+use Rattle.std.specs.Prelude.{◌-◌}
 use native.Mathlib.Omega.{arith}
 use borrow.Author.Tests.{not-true, not-false}
-use Rattle.theory.specs.Basics.{◌-◌, length}
-use Rattle.textreading.specs.Reading.Lines.{Next, next}
+use Rattle.theory.specs.Basics.{length}
+use Rattle.textreading.proofs.Reading.Lines.{Next, next}
 use Rattle.sessiontext.proofs.CoefficientLines.{Faultless, faultless-none, faultless-all, faultless-fault}
 use Rattle.sessiontext.proofs.CoefficientLines.{faultless-next}
 use borrow.Author.Rules.{rules}

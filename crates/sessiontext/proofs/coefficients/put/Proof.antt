@@ -1,11 +1,12 @@
 -- `sessiontext::coefficients::put` meets its contract: what is left of the text goes behind what is put down.
+use Rattle.std.specs.Prelude.{◌-◌}
 use mathlib.Core.Path.{◌≡◌}
 use native.Mathlib.Omega.{arith}
 use mir.Facts.{to_z-of_z}
 use mir.Syntax.{w64}
 use mir.Val.{to_z, of_z}
-use Rattle.theory.specs.Basics.{◌-◌, length}
-use Rattle.textreading.specs.Reading.Lines.{Next, next}
+use Rattle.theory.specs.Basics.{length}
+use Rattle.textreading.proofs.Reading.Lines.{Next, next}
 use Rattle.sessiontext.proofs.CoefficientLines.{Down, down-none, down-all, down-room, down-next}
 use borrow.Author.Rules.{rules}
 use Rattle.sessiontext.proofs.coefficients.put.Statement.{statement}

@@ -1,5 +1,5 @@
 -- `sessiontext::gathered::head` meets its contract: the mode's line is compared, and the six behind it are read.
-use mathlib.Core.Path.{◌≡◌, sym, ◌∙◌}
+use mathlib.Core.Path.{sym}
 use native.Mathlib.Omega.{arith}
 use lib.Seq.{length-take-le}
 use borrow.Author.Tests.{not-true, not-false}

@@ -3,7 +3,6 @@ use mathlib.Core.Path.{◌≡◌, refl, sym, ◌∙◌, ap}
 use Prim.Native.Nat.{◌≤◌}
 use native.Mathlib.Omega.{arith}
 use lib.ListN.{length-map}
-use lib.Seq.{length-sets}
 use borrow.Author.Tests.{not-true, not-false, lt-ltb, le-ltb, ne_eqb}
 use Rattle.theory.specs.Basics.{length, drop, Each}
 use Rattle.theory.specs.Limits.{degree_limit, page_limit}
@@ -17,7 +16,7 @@ use Rattle.pages.specs.Lawful.Gathered.{lent-passes}
 use Rattle.sessiontext.specs.declared.reading.HeadRead.{HeadRead}
 use Rattle.sessiontext.specs.SessionText.{gathered_form}
 use Rattle.sessiontext.specs.SessionText.Faithful.Gathered.{gathered-faithful}
-use Rattle.sessiontext.specs.Reading.{line_by, following_by, fault_by, slip_by, lines_by}
+use Rattle.sessiontext.specs.Reading.{line_by, fault_by, slip_by, lines_by}
 use Rattle.sessiontext.specs.Reading.Forms.{WaitingBy, formed}
 use Rattle.sessiontext.specs.Private.Weighted.{ReadFronted, AllFormed, read_as}
 use Rattle.sessiontext.proofs.Loading.{head-fault, line-fault, lent-refuses, text-faulty, lines-many}

@@ -1,8 +1,7 @@
 -- `sessiontext::gathered::sound_on` meets its contract: the lines are put down, and exactly they are judged.
-use mathlib.Core.Path.{◌≡◌, sym}
+use mathlib.Core.Path.{sym}
 use native.Mathlib.Omega.{arith}
 use lib.Seq.{length-take-le}
-use Rattle.textreading.specs.Reading.{lines_of}
 use Rattle.sessiontext.proofs.GatheredLoading.{words-fit, weights-fit, judged}
 use borrow.Author.Rules.{rules}
 use Rattle.sessiontext.proofs.gathered.sound_on.Statement.{statement}

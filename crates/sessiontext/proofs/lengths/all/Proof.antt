@@ -1,11 +1,12 @@
 -- `sessiontext::lengths::all` meets its contract: after i turns the first i lines are counted.
+use Rattle.std.specs.Prelude.{◌-◌, ◌*◌}
 use mathlib.Core.Path.{◌≡◌, refl}
 use native.Mathlib.Omega.{arith}
 use native.Mathlib.Numerals.{add-one}
 use Prim.Native.Nat.{◌≤◌}
 use lib.ListN.{length-append}
 use lib.Seq.{take_all}
-use Rattle.theory.specs.Basics.{ℕ, ◌-◌, ◌*◌, length, get_or, take, joined}
+use Rattle.theory.specs.Basics.{ℕ, length, get_or, take, joined}
 use Rattle.theory.proofs.Basics.AtPlace.{each_at}
 use Rattle.theory.proofs.Basics.Laws.{each-mapped, joined-next}
 use Rattle.theory.specs.Limits.{degree_limit}

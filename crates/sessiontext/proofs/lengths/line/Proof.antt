@@ -1,9 +1,10 @@
 -- `sessiontext::lengths::line` meets its contract.
+use Rattle.std.specs.Prelude.{◌+◌}
 use mathlib.Core.Path.{◌≡◌}
 use Prim.Native.Nat.{◌≤◌}
 use native.Mathlib.Omega.{arith}
 use lib.Signed.{non_neg}
-use Rattle.theory.specs.Basics.{not, ◌+◌, length}
+use Rattle.theory.specs.Basics.{not, length}
 use Rattle.theory.specs.ShapeWord.{shape_of}
 use Rattle.theory.specs.ClassWord.{class_of}
 use Rattle.pages.specs.Page.{line_of}

@@ -1,9 +1,10 @@
 -- `sessiontext::straight::list_at` meets its contract: after each turn the parts read so far stand there, each with a
 -- comma behind it.
+use Rattle.std.specs.Prelude.{◌∷◌, ◌++◌, ◌+◌, ◌-◌}
 use mathlib.Core.Path.{◌≡◌, sym, ◌∙◌}
 use native.Mathlib.Omega.{arith}
 use lib.ListN.{set, length-set}
-use Rattle.theory.specs.Basics.{[], ◌∷◌, ◌++◌, ◌+◌, ◌-◌, length, take}
+use Rattle.theory.specs.Basics.{[], length, take}
 use Rattle.text.specs.Text.{decimal, list_text}
 use Rattle.sessiontext.specs.Private.Stands.{Stands}
 use Rattle.sessiontext.proofs.Standing.{Listing, listing_none, listing-next, listing-stop, no-list}

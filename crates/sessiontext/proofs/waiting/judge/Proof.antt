@@ -1,9 +1,10 @@
 -- `sessiontext::waiting::judge` meets its contract: what is left of the text is to be judged with what is left of the
 -- budget.
+use Rattle.std.specs.Prelude.{◌+◌, ◌-◌}
 use native.Mathlib.Omega.{arith}
 use borrow.Author.Tests.{not-true, not-false}
-use Rattle.theory.specs.Basics.{◌+◌, ◌-◌, length}
-use Rattle.textreading.specs.Reading.Lines.{Next, next}
+use Rattle.theory.specs.Basics.{length}
+use Rattle.textreading.proofs.Reading.Lines.{Next, next}
 use Rattle.sessiontext.proofs.AllLines.{Judged, judged-none, judged-all, judged-fault, judged-next}
 use borrow.Author.Rules.{rules}
 use Rattle.sessiontext.proofs.waiting.judge.Statement.{statement}

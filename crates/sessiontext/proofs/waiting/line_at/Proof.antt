@@ -1,6 +1,6 @@
 -- `sessiontext::waiting::line_at` meets its contract: what was read straight on is of its form, any other line is cut out
 -- and read by itself.
-use Rattle.textreading.specs.Reading.Lines.{Next, next}
+use Rattle.textreading.proofs.Reading.Lines.{Next, next}
 use Rattle.sessiontext.proofs.AllLines.{straight-read, longer-read}
 use borrow.Author.Rules.{rules}
 use Rattle.sessiontext.proofs.waiting.line_at.Statement.{statement}

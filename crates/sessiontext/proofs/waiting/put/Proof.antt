@@ -1,7 +1,8 @@
 -- `sessiontext::waiting::put` meets its contract: what is left of the text goes behind what is on the page.
+use Rattle.std.specs.Prelude.{◌-◌}
 use native.Mathlib.Omega.{arith}
-use Rattle.theory.specs.Basics.{◌-◌, length}
-use Rattle.textreading.specs.Reading.Lines.{next}
+use Rattle.theory.specs.Basics.{length}
+use Rattle.textreading.proofs.Reading.Lines.{next}
 use Rattle.sessiontext.proofs.AllLines.{Put, put-none, put_all, put-room, put_next}
 use borrow.Author.Rules.{rules}
 use Rattle.sessiontext.proofs.waiting.put.Statement.{statement}

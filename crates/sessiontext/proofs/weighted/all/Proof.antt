@@ -1,4 +1,5 @@
 -- `sessiontext::weighted::all` meets its contract: after i turns the first i lines stand there.
+use Rattle.std.specs.Prelude.{◌-◌}
 use mathlib.Core.Path.{◌≡◌}
 use native.Mathlib.Omega.{arith}
 use native.Mathlib.Numerals.{add-one}
@@ -7,7 +8,7 @@ use mir.Syntax.{w64}
 use mir.Val.{to_z, of_z}
 use Prim.Native.Nat.{◌≤◌}
 use lib.Seq.{take_all}
-use Rattle.theory.specs.Basics.{◌-◌, length, get_or, take, joined, pos}
+use Rattle.theory.specs.Basics.{length, get_or, take, joined, pos}
 use Rattle.theory.proofs.Basics.AtPlace.{each_at}
 use Rattle.theory.proofs.Basics.Laws.{joined-next}
 use Rattle.theory.specs.Limits.{degree_limit}

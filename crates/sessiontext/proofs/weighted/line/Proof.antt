@@ -1,11 +1,12 @@
 -- `sessiontext::weighted::line` meets its contract: a name, the coefficient and what stands behind it.
+use Rattle.std.specs.Prelude.{◌/◌, ◌%◌, ◌^◌}
 use mathlib.Core.Path.{◌≡◌}
 use native.Mathlib.Omega.{arith}
 use mir.Facts.{to_z-of_z}
 use mir.Syntax.{w64}
 use mir.Val.{to_z, of_z}
 use Prim.Native.Nat.{◌≤◌}
-use Rattle.theory.specs.Basics.{length, ◌/◌, ◌%◌, ◌^◌}
+use Rattle.theory.specs.Basics.{length}
 use Rattle.text.specs.Wrote.{most}
 use Rattle.text.specs.Wrote.Laws.{wrote_then}
 use Rattle.sessiontext.specs.SessionText.Laws.{weighted-parts}

@@ -1,5 +1,4 @@
 -- `sessiontext::weighted::session` meets its contract: the line of the mode, six lines, and the waiting lines.
-use mathlib.Core.Path.{◌≡◌}
 use native.Mathlib.Omega.{arith}
 use Prim.Native.Nat.{◌≤◌}
 use Rattle.theory.specs.Basics.{length}

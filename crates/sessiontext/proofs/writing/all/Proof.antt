@@ -1,9 +1,10 @@
 -- `sessiontext::writing::all` meets its contract: after i turns the first i lines stand there.
+use Rattle.std.specs.Prelude.{◌-◌}
 use native.Mathlib.Omega.{arith}
 use native.Mathlib.Numerals.{add-one}
 use Prim.Native.Nat.{◌≤◌}
 use lib.Seq.{take_all}
-use Rattle.theory.specs.Basics.{ℕ, ◌-◌, length, take, joined}
+use Rattle.theory.specs.Basics.{ℕ, length, take, joined}
 use Rattle.theory.proofs.Basics.AtPlace.{each_at}
 use Rattle.theory.proofs.Basics.Laws.{each-mapped, joined-next}
 use Rattle.theory.specs.Limits.{degree_limit}

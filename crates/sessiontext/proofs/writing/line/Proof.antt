@@ -1,5 +1,4 @@
 -- `sessiontext::writing::line` meets its contract: a name, the sign and what stands behind it.
-use mathlib.Core.Path.{◌≡◌}
 use native.Mathlib.Omega.{arith}
 use Prim.Native.Nat.{◌≤◌}
 use Rattle.theory.specs.Basics.{length}

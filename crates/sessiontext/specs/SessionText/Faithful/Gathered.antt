@@ -1,13 +1,13 @@
 -- The laws of the gathered form: a decimal with its minus tells a coefficient that a signed number of 64 bits holds.
-use Rattle.std.specs.Prelude.{◌≡◌, refl, ◌≤◌, ◌<◌}
+use Rattle.std.specs.Prelude.{◌≡◌, refl, ◌<◌, ◌++◌, ◌^◌}
 use Rattle.std.proofs.Common.{sym, ◌∙◌, ap, append-nil, arith, ltb-true, lt-ltb}
-use Rattle.theory.specs.Basics.{true, [], ◌++◌, ℤ, pos, negsuc, nat_abs, ◌^◌, ◌=?◌}
+use Rattle.theory.specs.Basics.{true, [], ℤ, pos, negsuc, nat_abs, ◌=?◌}
 use Rattle.text.specs.Text.{ascii, integer}
 use Rattle.text.specs.Text.Decimals.{integer-length}
 use Rattle.textreading.specs.Reading.{is_digit, integer_in}
 use Rattle.textreading.specs.Reading.Bytes.{each-not, wider, integer-within}
 use Rattle.textreading.specs.Reading.Numbers.{integer-back}
-use Rattle.textreading.specs.Reading.Lines.{text-line}
+use Rattle.textreading.proofs.Reading.Lines.{text-line}
 use Rattle.pages.specs.Lawful.Gathered.{gathered-lawful}
 use Rattle.sessiontext.specs.SessionText.{held, gathered_form}
 use Rattle.sessiontext.specs.SessionText.Faithful.{Faithful}

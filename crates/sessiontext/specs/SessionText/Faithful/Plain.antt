@@ -1,8 +1,8 @@
 -- The laws of the plain form: a sign tells a weight of 1 or -1.
-use Rattle.std.specs.Prelude.{◌≡◌, refl, ◌≤◌}
+use Rattle.std.specs.Prelude.{◌≡◌, refl, ◌++◌}
 use Rattle.std.proofs.Common.{arith}
 use Rattle.std.specs.Int.Signed.{non_neg}
-use Rattle.theory.specs.Basics.{Bool, true, false, not, ◌++◌, length, ℤ, zero, suc, pos, negsuc, nat_abs, signed}
+use Rattle.theory.specs.Basics.{Bool, true, false, not, length, ℤ, zero, suc, pos, negsuc, nat_abs, signed}
 use Rattle.theory.proofs.Bounds.Laws.{abs-signed}
 use Rattle.text.specs.Text.{ascii}
 use Rattle.textreading.specs.Reading.{holds}

@@ -1,11 +1,12 @@
 -- `tabletext::table::classes` meets its contract: after so many turns the lines of so many classes stand there.
+use Rattle.std.specs.Prelude.{◌++◌, ◌-◌}
 use native.Mathlib.Omega.{arith}
 use native.Mathlib.Numerals.{add-one}
 use mathlib.Core.Path.{◌≡◌}
 use Prim.Native.Nat.{◌≤◌, ◌<◌}
 use lib.Seq.{take_all}
 use borrow.Author.Rules.{rules}
-use Rattle.theory.specs.Basics.{[], ◌++◌, suc, ◌-◌, length, get_or, take, joined}
+use Rattle.theory.specs.Basics.{[], suc, length, get_or, take, joined}
 use Rattle.theory.proofs.Basics.Laws.{joined-next}
 use Rattle.theory.specs.Listing.{listing}
 use Rattle.text.specs.Wrote.{Wrote}

@@ -1,7 +1,7 @@
 -- What is read is what the input asks for: the number that its digits give is the only one whose line it can be.
-use Rattle.std.specs.Prelude.{◌≡◌, refl, ◌<◌, min}
+use Rattle.std.specs.Prelude.{◌≡◌, refl, ◌<◌, min, ◌∷◌}
 use Rattle.std.proofs.Common.{sym, ◌∙◌, ap, ⊎_elim, arith}
-use Rattle.theory.specs.Basics.{List, [], ◌∷◌, get_or, ℕ}
+use Rattle.theory.specs.Basics.{List, [], get_or, ℕ}
 use Rattle.text.specs.Text.{Text, ascii}
 use Rattle.text.specs.Wrote.{most}
 use Rattle.textreading.specs.Reading.{is_digit, number_in}

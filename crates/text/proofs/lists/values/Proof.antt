@@ -1,8 +1,9 @@
 -- `text::lists::values` meets its contract: after i turns the first i values stand there, set apart by commas.
+use Rattle.std.specs.Prelude.{◌-◌}
 use native.Mathlib.Omega.{arith}
 use Prim.Native.Nat.{◌≤◌}
 use mir.Facts.{to_z-of_z}
-use Rattle.theory.specs.Basics.{◌-◌, length, pos}
+use Rattle.theory.specs.Basics.{length, pos}
 use Rattle.text.specs.Text.{integer}
 use Rattle.text.specs.Wrote.Laws.{wrote-length}
 use Rattle.text.proofs.ListLoops.{Reached, reached-none, reached-next, reached-all}

@@ -1,9 +1,9 @@
 -- Products of whole numbers: with sums, with signs, and their sizes.
-use Rattle.std.specs.Prelude.{◌≡◌, refl}
+use Rattle.std.specs.Prelude.{◌≡◌, refl, ◌∷◌, ◌*◌, ◌+ℤ◌, ◌-ℤ◌, ◌*ℤ◌}
 use Rattle.std.proofs.Common.{sym, ◌∙◌, ap, ap₂, mul-one}
 use Rattle.std.proofs.Math.IntN.{suc_ℤ, pred_ℤ, +ℤ_idl, +ℤ_invl, suc_ℤ-+ℤ, pred_ℤ-+ℤ, suc_ℤ-*ℤ, pred_ℤ-*ℤ, zero-*ℤ, *ℤ-zero, *ℤ_comm, +ℤ-neg_ℤ_cancel}
-use Rattle.theory.specs.Basics.{Bool, true, false, List, [], ◌∷◌, ℕ, zero, suc, ◌*◌, ℤ, pos, negsuc, ◌+ℤ◌, ◌-ℤ◌}
-use Rattle.theory.specs.Basics.{◌*ℤ◌, neg_ℤ, nat_abs, sum, signed}
+use Rattle.theory.specs.Basics.{Bool, true, false, List, [], ℕ, zero, suc, ℤ, pos, negsuc}
+use Rattle.theory.specs.Basics.{neg_ℤ, nat_abs, sum, signed}
 use Rattle.theory.proofs.Basics.Integers.{swap-back}
 
 -- ---- sums

@@ -4,12 +4,12 @@
 --   eval         the number that an expression is
 --   Poly         a sum of products, each a coefficient times variables in order; normal e, the expression e as one
 --   all_zero p    every coefficient is 0
-use Rattle.std.specs.Prelude.{◌≡◌, refl}
+use Rattle.std.specs.Prelude.{◌≡◌, refl, ◌&&◌, ◌∷◌, ◌+ℤ◌, ◌*ℤ◌}
 use Rattle.std.proofs.Common.{sym, ◌∙◌, ap, ap₂}
 use Rattle.std.proofs.lemmas.Bool.{false≢true}
 use Rattle.std.proofs.Math.IntN.{+ℤ_assoc, +ℤ_idl, +ℤ_idr, zero-*ℤ, *ℤ-zero, -ℤ-+ℤ_cancel}
-use Rattle.theory.specs.Basics.{Bool, true, false, cond, ◌&&◌, List, [], ◌∷◌, get_or, ℕ, zero, suc, ◌<?◌, same}
-use Rattle.theory.specs.Basics.{ℤ, pos, negsuc, ◌+ℤ◌, ◌*ℤ◌, neg_ℤ}
+use Rattle.theory.specs.Basics.{Bool, true, false, cond, List, [], get_or, ℕ, zero, suc, ◌<?◌, same}
+use Rattle.theory.specs.Basics.{ℤ, pos, negsuc, neg_ℤ}
 use Rattle.theory.proofs.Basics.Laws.{both, same_lists}
 use Rattle.theory.specs.Basics.Integers.{swap-front}
 use Rattle.theory.proofs.Basics.Integers.Products.{sum-times, times-sum, neg-times, times-one, one-times}

@@ -1,5 +1,5 @@
 -- The marks of a word are its hooks, in order.
-use Rattle.std.specs.Prelude.{◌≡◌, ◌<◌, ◌≤◌}
+use Rattle.std.specs.Prelude.{◌≡◌, ◌<◌, ◌≤◌, ◌&&◌, ◌∷◌, ◌++◌, ◌+◌, ◌-◌, ◌*◌, ◌/◌, ◌%◌, ◌^◌}
 use Rattle.std.proofs.Math.Path.{refl, ap, fun_ext}
 use Rattle.std.proofs.Common.{sym, ◌∙◌, ap₂, suc-add, zero-add, mod-eq_of_lt, mod-lt, add-one, arith, le-leb, drop_of_length-le, pow_pos, pow_mono, shr-shr, take_at, drop_at}
 use Rattle.std.proofs.lemmas.Simd.{map-map}
@@ -7,8 +7,8 @@ use Rattle.std.proofs.lemmas.List.{map-append}
 use Rattle.std.proofs.Math.Decide.{dec_lt}
 use Rattle.std.proofs.lemmas.Bool.{lt-leb}
 use Rattle.std.specs.Int.Count
-use Rattle.theory.specs.Basics.{Bool, true, false, not, cond, ◌&&◌, List, [], ◌∷◌, ◌++◌, map, take, drop, length}
-use Rattle.theory.specs.Basics.{ℕ, zero, suc, ◌+◌, ◌-◌, ◌*◌, ◌/◌, ◌%◌, ◌^◌, ◌=?◌, odd}
+use Rattle.theory.specs.Basics.{Bool, true, false, not, cond, List, [], map, take, drop, length}
+use Rattle.theory.specs.Basics.{ℕ, zero, suc, ◌=?◌, odd}
 use Rattle.theory.specs.Digits.{Digits, bit, digits, word, ones, zeros, width}
 use Rattle.theory.proofs.Digits.Laws.{digits-rest, word-digits, length_digits}
 use Rattle.theory.proofs.Digits.LastOne.{ones-append, ones-zeros}

@@ -1,7 +1,7 @@
 -- A hook by its stretch: the digits behind its zero, down to its one, as a word that has its ones there.
 -- A stretch added carries from the one to the zero, and so exchanges the two; it ends in a one, so its zeros are those
 -- strictly between.
-use Rattle.std.specs.Prelude.{◌≡◌, ◌<◌, ◌≤◌, min}
+use Rattle.std.specs.Prelude.{◌≡◌, ◌<◌, ◌≤◌, min, ◌+◌, ◌-◌, ◌*◌, ◌/◌, ◌%◌, ◌^◌}
 use Rattle.std.proofs.Math.Path.{sym, ap}
 use Rattle.std.proofs.Common.{◌∙◌, ap₂, mul_assoc, add-zero, pow_pos, pow-add}
 use Rattle.std.proofs.Math.Nat.{mod-eq_of_lt, div-eq_of_lt}
@@ -12,7 +12,7 @@ use Rattle.std.specs.Int.Count
 use Rattle.std.specs.Int.Count.{ones_step, ones-ones}
 use Rattle.std.proofs.lemmas.Nat.{ones_cat, ones-le, shl-shr}
 use Rattle.std.proofs.Math.Pow.{pow_mono, pow-lt, low, high_ones}
-use Rattle.theory.specs.Basics.{Bool, map, ℕ, zero, suc, ◌+◌, ◌-◌, ◌*◌, ◌/◌, ◌%◌, ◌^◌, ◌=?◌}
+use Rattle.theory.specs.Basics.{Bool, map, ℕ, zero, suc, ◌=?◌}
 use Rattle.theory.proofs.Basics.Laws.{map_same}
 use Rattle.theory.specs.Digits.{width}
 use Rattle.theory.proofs.Digits.Laws.{one_shifted}

@@ -2,15 +2,15 @@
 --   Highest W x z one   of a number x of W digits that is not 0, where z are the leading zeros of W + 1 digits: the
 --                       highest one stands at place W - z and counts `one`; without it x has the other places
 --   Begun h s b         a hook of length h begins at place b of the word s
-use Rattle.std.specs.Prelude.{◌≡◌, refl, ◌<◌, ◌≤◌}
+use Rattle.std.specs.Prelude.{◌≡◌, refl, ◌<◌, ◌≤◌, ◌∷◌, ◌+◌, ◌-◌, ◌*◌, ◌%◌, ◌^◌}
 use Rattle.std.proofs.Common.{sym, ◌∙◌, ap, lt_of_le_of_lt, lt_of_not-le, not-le_of_lt, arith, leb-true, pow_pos, pow_mono}
 use Rattle.std.proofs.Math.Nat.{div-eq_of_lt}
 use Rattle.std.proofs.Math.Decide.{ℕ_discrete}
 use Rattle.std.specs.Int.Count.{count_leading_zeros}
 use Rattle.std.proofs.lemmas.Nat.{leading_top}
 use Rattle.std.proofs.Math.Pow.{high, low}
-use Rattle.theory.specs.Basics.{Bool, true, false, not, cond, List, [], ◌∷◌}
-use Rattle.theory.specs.Basics.{ℕ, zero, suc, ◌+◌, ◌-◌, ◌*◌, ◌%◌, ◌^◌, ◌≤?◌, ℤ, sum, Each}
+use Rattle.theory.specs.Basics.{Bool, true, false, not, cond, List, []}
+use Rattle.theory.specs.Basics.{ℕ, zero, suc, ◌≤?◌, ℤ, sum, Each}
 use Rattle.theory.proofs.Basics.Laws.{both, each_same, each_both, each-mapped, sum-map}
 use Rattle.theory.specs.Digits.{bit, width}
 use Rattle.theory.proofs.Digits.Laws.{one_shifted}

@@ -5,9 +5,10 @@
 --   hook_by s r     the hook of the word s that has the stretch r
 -- A stretch added carries from the one to the zero, and so exchanges the two; it ends in a one, so its zeros are those
 -- strictly between.
+use Rattle.std.specs.Prelude.{◌+◌, ◌-◌, ◌/◌, ◌%◌, ◌^◌}
 use Rattle.std.specs.Int.Bits.{bit_and}
 use Rattle.std.specs.Int.Count
-use Rattle.theory.specs.Basics.{Bool, ℕ, ◌+◌, ◌-◌, ◌/◌, ◌%◌, ◌^◌, odd}
+use Rattle.theory.specs.Basics.{Bool, ℕ, odd}
 use Rattle.theory.specs.ShapeWord.Shifting.{ones_out}
 use Rattle.theory.specs.Hooks.{Hook}
 

@@ -1,8 +1,9 @@
 -- `words::classes::bits` meets its contract. What is written, and what the parts left will write, is the whole word.
+use Rattle.std.specs.Prelude.{◌+◌, ◌-◌, ◌*◌, ◌%◌, ◌^◌}
 use native.Mathlib.Omega.{arith}
 use mathlib.Core.Path.{refl}
 use borrow.Author.Rules.{rules}
-use Rattle.theory.specs.Basics.{ℕ, ◌+◌, ◌-◌, ◌*◌, ◌%◌, ◌^◌, length, get_or, drop}
+use Rattle.theory.specs.Basics.{ℕ, length, get_or, drop}
 use Rattle.theory.specs.Partition.{Parts}
 use Rattle.theory.proofs.Digits.Laws.{word_below}
 use Rattle.theory.specs.ClassWord.{class_digits, class_word}

@@ -1,5 +1,6 @@
 -- `words::classes::divisor` meets its contract. What has been multiplied, and what the parts left give behind the part
 -- read last, are the whole divisor.
+use Rattle.std.specs.Prelude.{◌-◌, ◌*◌}
 use native.Mathlib.Nat.{le_refl, mul-le-mul, mul_assoc, mul-one}
 use native.Mathlib.Omega.{arith}
 use mathlib.Core.Path.{◌≡◌, refl, sym, ap, ◌∙◌}
@@ -8,7 +9,7 @@ use Prim.Native.Nat.{◌≤◌}
 use borrow.Author.Rules.{rules}
 use borrow.Author.Tests.{eq-eqb, ne_eqb}
 use lib.Count.{count_leading_zeros}
-use Rattle.theory.specs.Basics.{ℕ, ◌-◌, ◌*◌}
+use Rattle.theory.specs.Basics.{ℕ}
 use Rattle.theory.specs.Partition.{Parts}
 use Rattle.theory.specs.ClassWord.{class_of}
 use Rattle.theory.specs.ClassData.{class_divisor}

@@ -1,5 +1,6 @@
 -- `words::classes::least_multiple` meets its contract. What the parts left make of what has been reached is what all of
 -- them make of 1.
+use Rattle.std.specs.Prelude.{◌-◌, ◌*◌, ◌%◌}
 use native.Mathlib.Nat.{mul-one}
 use native.Mathlib.Omega.{arith}
 use mathlib.Core.Path.{◌≡◌, refl, sym, ap, ◌∙◌}
@@ -7,7 +8,7 @@ use mathlib.Core.Logic.{⊎_elim}
 use Prim.Native.Nat.{◌≤◌, ◌<◌}
 use borrow.Author.Rules.{rules}
 use lib.Count.{count_leading_zeros}
-use Rattle.theory.specs.Basics.{ℕ, ◌-◌, ◌*◌, ◌%◌}
+use Rattle.theory.specs.Basics.{ℕ}
 use Rattle.theory.specs.ClassWord.{class_of}
 use Rattle.theory.specs.ClassData.Periods.{multiplier, period_from}
 use Rattle.theory.proofs.ClassData.Periods.{Multiplies, multiplies, one-multiplier, multiplier-within}

@@ -1,9 +1,10 @@
 -- `words::classes::multiplier` meets its contract. No smaller number will do, and the part itself always does.
+use Rattle.std.specs.Prelude.{◌-◌, ◌*◌, ◌%◌}
 use native.Mathlib.Nat.{mul-le-mul_left, mul-mod_left}
 use native.Mathlib.Omega.{arith}
 use mathlib.Core.Path.{◌≡◌, sym, ap, ◌∙◌}
 use Prim.Native.Nat.{◌≤◌, ◌<◌}
-use Rattle.theory.specs.Basics.{ℕ, ◌-◌, ◌*◌, ◌%◌}
+use Rattle.theory.specs.Basics.{ℕ}
 use Rattle.theory.proofs.ClassData.Periods.{one-multiplier}
 use Rattle.words.proofs.classes.multiplier.Statement.{statement}
 use Rattle.words.proofs.classes.multiplier.Tie as tie

@@ -1,11 +1,12 @@
 -- `words::classes::read` meets its contract. The parts are a partition where the part read last and those left are one,
 -- and there are as many as were counted and are left.
+use Rattle.std.specs.Prelude.{◌∷◌, ◌+◌, ◌-◌, ◌^◌}
 use native.Mathlib.Omega.{arith}
 use mathlib.Core.Path.{◌≡◌, sym, ap, ◌∙◌}
 use Prim.Native.Nat.{◌<◌, ◌≤◌}
 use borrow.Author.Rules.{rules}
 use borrow.Author.Tests.{lt-ltb, le-ltb}
-use Rattle.theory.specs.Basics.{true, false, [], ◌∷◌, ℕ, ◌+◌, ◌-◌, ◌^◌, length}
+use Rattle.theory.specs.Basics.{true, false, [], ℕ, length}
 use Rattle.theory.specs.Partition.{Parts, first, is_partition, degree}
 use Rattle.theory.proofs.Partition.Laws.{fall, rise, first-degree}
 use Rattle.theory.specs.Digits.{digits}

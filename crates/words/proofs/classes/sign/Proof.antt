@@ -1,9 +1,10 @@
 -- `words::classes::sign` meets its contract: the sign by the degree less the number of parts.
+use Rattle.std.specs.Prelude.{◌-◌, ◌%◌}
 use native.Mathlib.Omega.{arith}
 use mathlib.Core.Path.{◌≡◌, sym, ◌∙◌}
 use borrow.Author.Rules.{rules}
 use borrow.Author.Tests.{eq-eqb, ne_eqb}
-use Rattle.theory.specs.Basics.{ℕ, ◌-◌, ◌%◌, pos, negsuc, length}
+use Rattle.theory.specs.Basics.{ℕ, pos, negsuc, length}
 use Rattle.theory.specs.Partition.{Parts, degree}
 use Rattle.theory.proofs.Partition.Laws.{length-degree}
 use Rattle.theory.specs.ClassWord.{class_of}

@@ -1,10 +1,11 @@
 -- `words::classes::size` meets its contract: a factorial of the table, divided.
+use Rattle.std.specs.Prelude.{◌/◌}
 use native.Mathlib.Omega.{arith}
 use native.Mathlib.Nat.{div-le_self}
 use mathlib.Core.Path.{ap, ap₂, ◌∙◌}
 use Prim.Native.Nat.{◌≤◌}
 use borrow.Author.Rules.{rules}
-use Rattle.theory.specs.Basics.{ℕ, pos, ◌/◌, get_or}
+use Rattle.theory.specs.Basics.{ℕ, pos, get_or}
 use Rattle.theory.specs.ClassWord.{class_of}
 use Rattle.theory.specs.ClassData.{class_size}
 use Rattle.theory.proofs.ClassData.Laws.{divisor-positive}

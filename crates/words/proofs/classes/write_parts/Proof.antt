@@ -1,9 +1,10 @@
 -- `words::classes::write_parts` meets its contract. The parts of the digits left are those that are not written yet.
+use Rattle.std.specs.Prelude.{◌-◌, ◌^◌}
 use native.Mathlib.Omega.{arith}
 use mathlib.Core.Path.{ap}
 use Prim.Native.Nat.{◌<◌, ◌≤◌}
 use borrow.Author.Rules.{rules}
-use Rattle.theory.specs.Basics.{◌-◌, ◌^◌, length}
+use Rattle.theory.specs.Basics.{length}
 use Rattle.theory.specs.ClassWord.{class_of}
 use Rattle.words.proofs.Columns.{Putting, put-start, put_next, put_all}
 use Rattle.words.proofs.ClassLoops.{parts_left, NextPart, next-part, no-parts-left}

@@ -1,9 +1,10 @@
 -- `words::lists::capped_degree` meets its contract. The degree so far, and that of what is left, are the whole degree.
+use Rattle.std.specs.Prelude.{◌+◌, ◌-◌}
 use native.Mathlib.Omega.{arith}
 use mathlib.Core.Path.{◌≡◌, ap}
 use Prim.Native.Nat.{◌≤◌}
 use borrow.Author.Rules.{rules}
-use Rattle.theory.specs.Basics.{◌+◌, ◌-◌, length, get_or, drop}
+use Rattle.theory.specs.Basics.{length, get_or, drop}
 use Rattle.theory.specs.Partition.{degree}
 use Rattle.theory.specs.Limits.{degree_limit}
 use Rattle.words.proofs.PartLists.{degree-left, none_left}

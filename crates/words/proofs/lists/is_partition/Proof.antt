@@ -1,9 +1,10 @@
 -- `words::lists::is_partition` meets its contract. The list is a partition where what is left of it is one.
+use Rattle.std.specs.Prelude.{◌-◌}
 use native.Mathlib.Omega.{arith}
 use mathlib.Core.Path.{◌≡◌, sym, ◌∙◌, ap}
 use Prim.Native.Nat.{◌≤◌}
 use borrow.Author.Rules.{rules}
-use Rattle.theory.specs.Basics.{◌-◌, length, drop}
+use Rattle.theory.specs.Basics.{length, drop}
 use Rattle.theory.specs.Partition.{is_partition}
 use Rattle.words.proofs.PartLists.{none_left, zero_left, rise-left, fall-left}
 use Rattle.words.proofs.lists.is_partition.Statement.{statement}

@@ -1,11 +1,12 @@
 -- `words::shapes::bits` meets its contract. The bits so far, and the word of the rows left in the digits left, are the
 -- whole word.
+use Rattle.std.specs.Prelude.{◌∷◌, ◌+◌, ◌-◌, ◌*◌, ◌%◌, ◌^◌}
 use native.Mathlib.Omega.{arith}
 use mathlib.Core.Path.{◌≡◌, sym, ap, ◌∙◌}
 use Prim.Native.Nat.{◌≤◌, ◌<◌}
 use borrow.Author.Rules.{rules}
 use lib.Pow.{pow_mono}
-use Rattle.theory.specs.Basics.{◌∷◌, ℕ, suc, length, drop, ◌+◌, ◌-◌, ◌*◌, ◌%◌, ◌^◌}
+use Rattle.theory.specs.Basics.{ℕ, suc, length, drop}
 use Rattle.theory.specs.Partition.{Parts, first}
 use Rattle.theory.proofs.Partition.Laws.{front}
 use Rattle.theory.specs.Digits.{word}

@@ -1,12 +1,13 @@
 -- `words::shapes::flipped` meets its contract. What is put out so far, and below it the digits left, complemented and
 -- lowest first, are the conjugate; the lowest places, as many as there are trailing zeros, keep their zeros.
+use Rattle.std.specs.Prelude.{◌+◌, ◌-◌, ◌*◌, ◌/◌, ◌%◌, ◌^◌}
 use native.Mathlib.Omega.{arith}
 use mathlib.Core.Path.{◌≡◌, sym, ap, ◌∙◌}
 use Prim.Native.Nat.{◌≤◌}
 use native.Mathlib.Nat.{pos_of_ne-zero}
 use borrow.Author.Rules.{rules}
 use lib.Count.{count_trailing_zeros, trailing_le}
-use Rattle.theory.specs.Basics.{ℕ, ◌+◌, ◌-◌, ◌*◌, ◌/◌, ◌%◌, ◌^◌}
+use Rattle.theory.specs.Basics.{ℕ}
 use Rattle.theory.specs.Digits.{digits, word}
 use Rattle.theory.proofs.Digits.Laws.{word_below}
 use Rattle.theory.proofs.Digits.Low.{trailing-more}

@@ -1,7 +1,8 @@
 -- `words::shapes::measure` meets its contract: it is what the reader found, and the rows of the word are counted.
+use Rattle.std.specs.Prelude.{◌^◌}
 use borrow.Author.Rules.{rules}
 use borrow.Author.Tests.{ltb-true}
-use Rattle.theory.specs.Basics.{ℕ, ◌^◌}
+use Rattle.theory.specs.Basics.{ℕ}
 use Rattle.theory.specs.Digits.{width}
 use Rattle.theory.specs.Limits.{degree_limit}
 use Rattle.theory.proofs.Refusals.Laws.{shape-clear}

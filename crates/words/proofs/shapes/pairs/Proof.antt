@@ -1,10 +1,10 @@
 -- `words::shapes::pairs` meets its contract. Leading zeros give the next one; the pairs so far, and those of the ones
 -- left with the zeros passed and with those left, are the degree.
+use Rattle.std.specs.Prelude.{◌+◌, ◌-◌, ◌*◌, ◌^◌}
 use native.Mathlib.Omega.{arith}
 use mathlib.Core.Path.{◌≡◌, ap}
 use Prim.Native.Nat.{◌≤◌, ◌<◌}
 use borrow.Author.Rules.{rules}
-use Rattle.theory.specs.Basics.{◌+◌, ◌-◌, ◌*◌, ◌^◌}
 use Rattle.theory.specs.Partition.{degree}
 use Rattle.theory.specs.Digits.{digits}
 use Rattle.theory.specs.ShapeWord.{shape_of}

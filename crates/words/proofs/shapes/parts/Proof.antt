@@ -1,8 +1,9 @@
 -- `words::shapes::parts` meets its contract: refused with what was measured, or the rows go to a column with room.
+use Rattle.std.specs.Prelude.{◌^◌}
 use mathlib.Core.Path.{refl}
 use borrow.Author.Rules.{rules}
 use borrow.Author.Tests.{ltb-true}
-use Rattle.theory.specs.Basics.{ℕ, ◌^◌}
+use Rattle.theory.specs.Basics.{ℕ}
 use Rattle.theory.specs.Partition.{Parts}
 use Rattle.theory.specs.Digits.{width}
 use Rattle.theory.specs.ShapeWord.{shape_of}

@@ -1,11 +1,12 @@
 -- `words::shapes::read` meets its contract: each way out is the first check that refuses, or none, and then the ones in
 -- front are dropped.
+use Rattle.std.specs.Prelude.{◌*◌, ◌%◌, ◌^◌}
 use mathlib.Core.Path.{◌∙◌, ap}
 use Prim.Native.Nat.{◌<◌}
 use native.Mathlib.Omega.{arith}
 use borrow.Author.Rules.{rules}
 use borrow.Author.Tests.{lt-ltb, le-ltb}
-use Rattle.theory.specs.Basics.{ℕ, ◌*◌, ◌%◌, ◌^◌}
+use Rattle.theory.specs.Basics.{ℕ}
 use Rattle.theory.specs.Partition.{degree}
 use Rattle.theory.specs.Digits.{width}
 use Rattle.theory.specs.ShapeWord.{shape_of}

@@ -1,9 +1,10 @@
 -- `words::shapes::row_count` meets its contract: rows, ones and trailing zeros are all 31 digits.
+use Rattle.std.specs.Prelude.{◌+◌}
 use native.Mathlib.Omega.{arith}
 use mathlib.Core.Path.{◌≡◌, sym, ap, ◌∙◌}
 use native.Mathlib.Nat.{pos_of_ne-zero}
 use lib.Count
-use Rattle.theory.specs.Basics.{ℕ, length, ◌+◌}
+use Rattle.theory.specs.Basics.{ℕ, length}
 use Rattle.theory.proofs.Digits.Low.{trailing-more}
 use Rattle.theory.specs.ShapeWord.{shape_of}
 use Rattle.theory.proofs.ShapeWord.Reading.{ones-digits}

@@ -1,11 +1,12 @@
 -- `words::shapes::write_rows` meets its contract. The rows of the digits left are those that are not written yet: a
 -- zero is the next row, as long as there are ones left, and a one makes those that follow shorter.
+use Rattle.std.specs.Prelude.{◌-◌, ◌*◌, ◌%◌, ◌^◌}
 use native.Mathlib.Omega.{arith}
 use mathlib.Core.Path.{◌≡◌, sym, ap, ◌∙◌}
 use Prim.Native.Nat.{◌≤◌, ◌<◌}
 use borrow.Author.Rules.{rules}
 use lib.Count
-use Rattle.theory.specs.Basics.{ℕ, length, ◌-◌, ◌*◌, ◌%◌, ◌^◌}
+use Rattle.theory.specs.Basics.{ℕ, length}
 use Rattle.theory.specs.Digits.{digits, ones}
 use Rattle.theory.proofs.Digits.Laws.{one_shifted}
 use Rattle.theory.specs.ShapeWord.{rows, shape_of}

@@ -1,0 +1,2 @@
+-- Laws of what specs/Calls.antt defines.
+pub mod Laws

@@ -1,0 +1,2 @@
+-- Laws of what specs/Lists.antt defines.
+pub mod Laws

@@ -1,0 +1,2 @@
+-- Laws of what specs/Reading.antt defines.
+pub mod Lines

@@ -119,8 +119,9 @@ fn row_of_one(rank: usize) -> [i64; ROW]
 }
 
 // The row of a rank in the table for a class word of degree 4 or less, and zeros after it. The zeros behind the last
-// one tell the degree. The compiler takes in what is called here, and so the tables on the stack; hence this is called
-// in two places, that no caller takes it in and keeps a table under a walk.
+// one tell the degree. The compiler takes in what is called here, and so the tables on the stack; hence it may not take
+// this into a caller, which would keep a table under a walk.
+#[inline(never)]
 fn table_row(class: u32, rank: usize) -> [i64; ROW]
     requires { SmallClass class × (rank < length (listing (degree (class_of class)))) }
     ensures { TableRow (degree (class_of class)) rank result }

@@ -118,15 +118,16 @@ fn empty(displacements: &[u16]) -> [i64; PLACE_COUNT]
     table
 }
 
-// The column of a class of this degree to the front of `values`, which has room.
+// The column of a class of this degree to the front of `values`, which has room. The words are made last: in front of
+// the table they had the compiler keep three tables on the stack.
 pub fn write(cycles: &[u8], degree: u32, values: &mut [i64])
     requires cycles { Cycles degree_limit cycles.now × (degree ≡ degree_of cycles.now) }
     requires degree_in_bounds { length (listing degree) ≤ length values.old }
     ensures { values.new ≡ at_front (column cycles.now) values.old }
 {
-    let words = listing::shape_words();
     let displacements = lookup::displacements();
     let mut table = empty(&displacements);
+    let words = listing::shape_words();
     fill(&mut table, &words, &displacements, cycles);
     copy_out(&table, &words, &displacements, degree, values);
 }

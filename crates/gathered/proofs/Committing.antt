@@ -37,8 +37,8 @@ use Rattle.pages.proofs.Signed.{carried, carried-is}
 use Rattle.sessions.specs.declared.Handed.{Handed}
 use Rattle.sessions.specs.Opening.{handed}
 use Rattle.sessions.specs.Step.{settled_hooks, waiting_hooks, next_lines_in, next_slip_in, commit_checks_in, commit_in}
-use Rattle.sessions.specs.Step.Gathered.{unlike-waiting}
-use Rattle.sessions.specs.Step.Named.{Named, settled-room}
+use Rattle.sessions.proofs.Step.Gathered.{unlike-waiting}
+use Rattle.sessions.proofs.Step.Named.{Named, settled-room}
 use Rattle.gathered.specs.declared.commits.Struck.{Struck}
 use Rattle.gathered.specs.declared.joining.Joined.{Joined}
 use Rattle.gathered.specs.Private.Joining.{Small, next_of, joined_answer, Joinable, joined_onto}

@@ -44,9 +44,9 @@ use Rattle.sessions.specs.declared.Handed.{Handed}
 use Rattle.sessions.specs.Opening.{handed}
 use Rattle.sessions.specs.Step.{settled_hooks, waiting_hooks, next_lines_in, next_slip_in, commit_in}
 use Rattle.sessions.specs.Step.{next_lines, next_slip, commit_checks, commit}
-use Rattle.sessions.specs.Step.Strike.{each-waiting, strike-value}
-use Rattle.sessions.specs.Step.Laws.{NamedOn, named-on}
-use Rattle.sessions.specs.Step.Previews.{few-new}
+use Rattle.sessions.proofs.Step.Strike.{each-waiting, strike-value}
+use Rattle.sessions.proofs.Step.Laws.{NamedOn, named-on}
+use Rattle.sessions.proofs.Step.Previews.{few-new}
 use Rattle.gathered.specs.declared.commits.Struck.{Struck}
 use Rattle.gathered.specs.Private.Alone.{alone}
 use Rattle.gathered.specs.Private.Striking.{cleared, turned, struck_checks, Strikes}

@@ -63,7 +63,9 @@ fn different_with(words: &[u64], heads: &mut [u16], links: &mut [u16]) -> bool
     true
 }
 
-// Whether no two of these words are equal. Few words have few chains, so that little room is cleared for them.
+// Whether no two of these words are equal. Few words have few chains, so that little room is cleared for them. The
+// compiler may not take this into a caller, whose other calls would then stand above the arrays on the stack.
+#[inline(never)]
 pub fn different(words: &[u64]) -> bool
     requires { length words.now ≤ page_limit }
     ensures { result ≡ all_different words.now }

@@ -20,7 +20,7 @@ use Rattle.pages.proofs.SoundPages.{line_word}
 use Rattle.sessions.specs.declared.lines.WithoutCycle.{WithoutCycle}
 use Rattle.sessions.specs.declared.ClassLeft.{ClassLeft}
 use Rattle.sessions.specs.Step.{named_checks}
-use Rattle.sessions.specs.Step.Laws.{NamedOn, named-on}
+use Rattle.sessions.proofs.Step.Laws.{NamedOn, named-on}
 use Rattle.sessions.specs.Private.ClassLeft.{class_left, class_left_of}
 use Rattle.sessions.specs.Private.Striking.{class_without}
 

@@ -40,9 +40,9 @@ use Rattle.sessions.specs.declared.Struck.{Struck}
 use Rattle.sessions.specs.Opening.{handed, Handed}
 use Rattle.sessions.specs.Step.{settled_hooks, waiting_hooks, next_lines_in, next_slip_in, preview_in, commit_in}
 use Rattle.sessions.specs.Step.{next_lines, next_slip, named_checks, new_lines, preview, commit_checks, commit}
-use Rattle.sessions.specs.Step.Named.{settled-room, next-length}
-use Rattle.sessions.specs.Step.Laws.{NamedOn, named-on}
-use Rattle.sessions.specs.Step.Previews.{few-new}
+use Rattle.sessions.proofs.Step.Named.{settled-room, next-length}
+use Rattle.sessions.proofs.Step.Laws.{NamedOn, named-on}
+use Rattle.sessions.proofs.Step.Previews.{few-new}
 use Rattle.sessions.specs.Private.ClassLeft.{class_left_of}
 use Rattle.sessions.specs.Private.Pages.{others, Exchanges, exchanged}
 use Rattle.sessions.specs.Private.Striking.{Strikes, stripped}

@@ -40,7 +40,7 @@ use Rattle.pages.specs.Page.{line_of, word_of}
 use Rattle.pages.specs.Page.{plain}
 use Rattle.pages.proofs.Signed.{carried, carried-is, room}
 use Rattle.sessions.specs.Step.{empty, settled_hooks, waiting_hooks}
-use Rattle.sessions.specs.Step.Strike.{cycle-positive}
+use Rattle.sessions.proofs.Step.Strike.{cycle-positive}
 use Rattle.sessions.specs.Private.Striking.{multiplied, Strikes, hook_count, stripped}
 
 abbrev waits : Line → Bool

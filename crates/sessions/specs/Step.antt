@@ -23,11 +23,6 @@ use Rattle.pages.specs.Page.{word_of, line_at, slip_of}
 use Rattle.pages.specs.Mode.{Mode, waiting_in, plain_mode}
 use Rattle.pages.specs.Sound.{page_checks_in}
 use Rattle.sessions.specs.Opening.{handed, Handed}
-pub mod Strike
-pub mod Named
-pub mod Laws
-pub mod Previews
-pub mod Gathered
 
 abbrev pub empty : Line → Bool
 empty l = l.shape =? 0

@@ -19,7 +19,7 @@ use Rattle.pages.specs.Mode.{Mode, waiting_in}
 use Rattle.pages.specs.Sound.Laws.{SoundIn}
 use Rattle.pages.specs.Lawful.{Lawful}
 use Rattle.sessions.specs.Step.{next_lines_in, next_slip_in, commit_checks_in, finished_in, commit_in}
-use Rattle.sessions.specs.Step.Laws.{accepted, next-sound-in, next-waits, next-worth-in}
+use Rattle.sessions.proofs.Step.Laws.{accepted, next-sound-in, next-waits, next-worth-in}
 use Rattle.sessiontext.specs.declared.Loaded.{Loaded}
 use Rattle.sessiontext.specs.SessionText.{Form}
 use Rattle.sessiontext.specs.SessionText.Faithful.{Faithful}

@@ -10,17 +10,14 @@ use Rattle.classcolumns.proofs.Entries.{entries-column}
 use Rattle.classcolumns.proofs.filling.write.Statement.{statement}
 use Rattle.classcolumns.proofs.filling.write.Tie as tie
 
-abbrev begin : tie.After-displacements-displacements → tie.Start
-begin c = c.before.before.before
+abbrev begin : tie.After-shape_words-words → tie.Start
+begin c = c.before.before.before.before.before
 
-abbrev lent : tie.After-fill → tie.After-displacements-displacements
-lent c = c.before.before.before.before.before.before
+abbrev lent : tie.After-fill → tie.After-shape_words-words
+lent c = c.before.before.before.before
 
 abbrev filled : tie.After-copy_out-arg-1 → tie.After-fill
 filled c = c.before.before.before.before.before
-
-shape-words-requires : tie.Need-shape_words-words-requires
-shape-words-requires c κs = search rules
 
 displacements-requires : tie.Need-displacements-displacements-requires
 displacements-requires c κs = search rules
@@ -30,6 +27,9 @@ slice-aggregate-empty c = search rules
 
 empty-requires : tie.Need-empty-table-requires
 empty-requires c κs = search rules
+
+shape-words-requires : tie.Need-shape_words-words-requires
+shape-words-requires c κs = search rules
 
 slice-aggregate-fill : tie.Need-slice_bounds-fill-end
 slice-aggregate-fill c = search rules
@@ -77,10 +77,10 @@ pub write_spec : {M : Type 1} → statement M
 write_spec =
     tie.close
     (tie.spec
-    shape-words-requires
     displacements-requires
     slice-aggregate-empty
     empty-requires
+    shape-words-requires
     slice-aggregate-fill
     slice-aggregate-fill-2
     slice-aggregate-fill-3

@@ -25,7 +25,7 @@ use Rattle.pages.specs.Sound.Laws.{SoundLine, asked, values, spans, SoundLines}
 use Rattle.pages.specs.Mode.{Mode}
 use Rattle.pages.specs.Lawful.{Lawful}
 use Rattle.sessions.specs.Step.{settled_hooks, waiting_hooks, next_lines_in, next_slip_in, next_lines}
-use Rattle.sessions.specs.Step.Strike.{waiting-sound, strike-worth, strike-value, strike-span}
+use Rattle.sessions.proofs.Step.Strike.{waiting-sound, strike-worth, strike-value, strike-span}
 
 pub record Named (limit : ℕ) (slip : Slip) (lines : List Line) (i cycle : ℕ) : Type 0 where
   pub soundness : SoundLines limit slip lines

@@ -40,9 +40,9 @@ use Rattle.pages.specs.Lawful.Checks.{page-passes}
 use Rattle.pages.specs.Lawful.Gathered.{gathered-lawful}
 use Rattle.sessions.specs.Opening.{Handed, handed}
 use Rattle.sessions.specs.Step.{waiting_hooks, next_lines_in, commit_checks_in, finished_in, commit_in}
-use Rattle.sessions.specs.Step.Strike.{cycle-positive, each-waiting}
-use Rattle.sessions.specs.Step.Named.{Named, chosen-sound}
-use Rattle.sessions.specs.Step.Laws.{Accepted, accepted, next-waits, next-passes}
+use Rattle.sessions.proofs.Step.Strike.{cycle-positive, each-waiting}
+use Rattle.sessions.proofs.Step.Named.{Named, chosen-sound}
+use Rattle.sessions.proofs.Step.Laws.{Accepted, accepted, next-waits, next-passes}
 
 -- ---- lines
 module _ (k : Line) (lines : List Line) (i cycle : ℕ) (there : i < length lines) where

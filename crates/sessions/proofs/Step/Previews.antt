@@ -31,8 +31,8 @@ use Rattle.sessions.specs.Opening.{handed, Handed}
 use Rattle.sessions.specs.Step.{empty, waiting_hooks, next_lines_in, named_checks_in, new_lines_in, preview_in}
 use Rattle.sessions.specs.Step.{commit_checks_in, finished_in, commit_in, next_lines, new_lines}
 use Rattle.sessions.specs.Step.{preview, commit_checks, commit}
-use Rattle.sessions.specs.Step.Named.{chosen-sound}
-use Rattle.sessions.specs.Step.Laws.{NamedOn, numbered-named, named-on}
+use Rattle.sessions.proofs.Step.Named.{chosen-sound}
+use Rattle.sessions.proofs.Step.Laws.{NamedOn, numbered-named, named-on}
 
 -- a number that no check has is not the first
 first-other : (n : ℕ) (checks : List Check) → (n ≡ 0 → ⊥) → every (λ check. not (check.1 =? n)) checks ≡ true

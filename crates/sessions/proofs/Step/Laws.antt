@@ -28,8 +28,8 @@ use Rattle.pages.specs.Lawful.Checks.{numbered_more, numbered-page, passed-page,
 use Rattle.pages.specs.Lawful.Put.{waiting-put, sound-put}
 use Rattle.sessions.specs.Step.{waiting_hooks, next_lines_in, next_slip_in, named_checks_in, new_lines_in}
 use Rattle.sessions.specs.Step.{commit_checks_in}
-use Rattle.sessions.specs.Step.Strike.{each-waiting}
-use Rattle.sessions.specs.Step.Named.{Named, chosen-sound, next-written, next-stands, next-sound, next-worth}
+use Rattle.sessions.proofs.Step.Strike.{each-waiting}
+use Rattle.sessions.proofs.Step.Named.{Named, chosen-sound, next-written, next-stands, next-sound, next-worth}
 
 abbrev rest : (m : Mode) → Slip → m.Lent → ℕ → ℕ → List Check
 rest m slip x line cycle = no-8 slip.lines line ∷ no_9 (class_of (line_at (waiting_in m slip x) line).class) cycle ∷ []

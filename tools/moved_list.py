@@ -68,7 +68,8 @@ def main():
         "Theory's theorems stand in `proofs/`, the definitions in `specs/`. This is what moved, machine-made by",
         "`tools/moved_list.py`: for each file of `crates/theory/proofs` every statement as it stands there, with the",
         "parameters of its modules. A name marked `pub` can be used by other files. Behind them the same of the other",
-        "crates of which theorems moved.",
+        "crates of which theorems moved. Where a definition stayed in `specs/`, the parameters of its module, unsaid",
+        "as long as a theorem stood beside it, are written out.",
     ]
     files = names = 0
     paths = sorted(glob.glob(f"{FROM}/**/*.antt", recursive=True))

@@ -1,5 +1,6 @@
 #!/usr/bin/env python3
-"""Writes docs/PORT-MOVED.md: the statements of theory's proofs/, file by file, as they stand there.
+"""Writes docs/PORT-MOVED.md: the statements that moved from specs/ to proofs/, file by file, as they stand there: all of
+theory's, and of other crates those of the files that are named below.
 
     python3 tools/moved_list.py
 
@@ -10,6 +11,14 @@ import glob
 import re
 
 FROM, TO = "crates/theory/proofs", "docs/PORT-MOVED.md"
+# what moved in other crates, since an edit of a definition that it stands on must be refused
+OTHERS = [
+    "crates/textreading/proofs/Reading/**/*.antt",
+    "crates/oldlists/proofs/Lists/**/*.antt",
+    "crates/oldlists/proofs/Calls/**/*.antt",
+    "crates/sessions/proofs/Step/**/*.antt",
+    "crates/sessionruns/proofs/Run/**/*.antt",
+]
 ITEM = re.compile(r" *(?:pub )?[^\s(){},;]+ : ")
 
 
@@ -58,16 +67,20 @@ def main():
         "",
         "Theory's theorems stand in `proofs/`, the definitions in `specs/`. This is what moved, machine-made by",
         "`tools/moved_list.py`: for each file of `crates/theory/proofs` every statement as it stands there, with the",
-        "parameters of its modules. A name marked `pub` can be used by other files.",
+        "parameters of its modules. A name marked `pub` can be used by other files. Behind them the same of the other",
+        "crates of which theorems moved.",
     ]
     files = names = 0
-    for path in sorted(glob.glob(f"{FROM}/**/*.antt", recursive=True)):
+    paths = sorted(glob.glob(f"{FROM}/**/*.antt", recursive=True))
+    for other in OTHERS:
+        paths += sorted(glob.glob(other, recursive=True))
+    for path in paths:
         with open(path, encoding="utf-8") as it:
             found = statements(it.read().split("\n"))
         if found:
             files += 1
             names += sum(1 for line in found if ITEM.match(line) and not line.lstrip().startswith(("→", "module", "(", "≡")))
-            text += ["", f"## `{path[len(FROM) + 1:]}`", "", "```", *found, "```"]
+            text += ["", f"## `{path.removeprefix(FROM + '/')}`", "", "```", *found, "```"]
     with open(TO, "w", encoding="utf-8") as it:
         it.write("\n".join(text) + "\n")
     print(f"{TO}: {files} files, {names} statements")

@@ -4,24 +4,17 @@
 --   PlainDemand3, GatheredDemand3   demand 3 of a session in the plain mode, and in the gathered one
 --   SessionsAgree                   both are worth the same, and once no line waits in either have settled the same
 use Rattle.std.specs.Prelude.{◌≡◌}
-use Rattle.std.proofs.Common.{sym, ◌∙◌}
 use Rattle.theory.specs.Basics.{List, length, ℕ, ℤ}
-use Rattle.theory.specs.Limits.{degree_limit}
 use Rattle.pages.specs.Page.{worth}
 use Rattle.pages.specs.Mode.{waiting_in, plain_mode, gathered_mode}
-use Rattle.pages.specs.Lawful.Gathered.{as_long}
-use Rattle.sessiontext.specs.SessionText.{plain_form, gathered_form}
 use Rattle.sessiontext.specs.SessionText.Faithful.Plain.{plain-faithful}
 use Rattle.sessiontext.specs.SessionText.Faithful.Gathered.{gathered-faithful}
-use Rattle.sessionruns.specs.Run.{Call, Standing, Session}
-use Rattle.sessionruns.specs.Run.Demand3.{Demand3, demand-3, session-opened}
+use Rattle.sessionruns.specs.Run.{Call, Standing}
+use Rattle.sessionruns.specs.Run.Demand3.{Demand3}
 
 module _ (shape class : ℕ) (page : List ℕ) (calls : List (Call (List ℕ))) (end : Standing (List ℕ)) where
   abbrev pub PlainDemand3 : Type 0
   PlainDemand3 = Demand3 plain-faithful shape class page calls end
-
-  pub plain-demand-3 : Session plain_form degree_limit shape class page calls end → PlainDemand3
-  plain-demand-3 = demand-3 plain-faithful shape class page calls end
 
 module _ (shape class : ℕ) (page : List ℕ) (column : List ℤ) (calls : List (Call (List ℕ × List ℤ)))
     (end : Standing (List ℕ × List ℤ)) where
@@ -31,17 +24,6 @@ module _ (shape class : ℕ) (page : List ℕ) (column : List ℤ) (calls : List
     pub same-column : length end.lent.1 ≡ length column
     pub as-page : length end.lent.0 ≡ length end.lent.1
 
-  pub gathered-demand-3 : Session gathered_form degree_limit shape class (page, column) calls end → GatheredDemand3
-  gathered-demand-3 s =
-      let d = demand-3 gathered-faithful shape class (page, column) calls end s in
-      let o = session-opened gathered-faithful shape class (page, column) calls end s in
-      let now = (as_long end.lent.0 end.lent.1 d.still-lent).1 in
-      record {
-        demand = d;
-        same-column = sym now ∙ d.same_length ∙ (as_long page column o.was-lent).1;
-        as-page = now;
-      }
-
 -- ---- one session in each mode
 module _ (shape class : ℕ) (page : List ℕ) (calls : List (Call (List ℕ))) (end : Standing (List ℕ))
     (lent : List ℕ × List ℤ) (others : List (Call (List ℕ × List ℤ))) (there : Standing (List ℕ × List ℤ)) where
@@ -49,13 +31,3 @@ module _ (shape class : ℕ) (page : List ℕ) (calls : List (Call (List ℕ))) 
     pub same-worth : worth end.slip (waiting_in plain_mode end.slip end.lent)
         ≡ worth there.slip (waiting_in gathered_mode there.slip there.lent)
     pub same-settled : end.slip.lines ≡ 0 → there.slip.lines ≡ 0 → end.slip.settled ≡ there.slip.settled
-
-  pub sessions-agree : Session plain_form degree_limit shape class page calls end
-      → Session gathered_form degree_limit shape class lent others there → SessionsAgree
-  sessions-agree s t =
-      let d = demand-3 plain-faithful shape class page calls end s in
-      let g = demand-3 gathered-faithful shape class lent others there t in
-      record {
-        same-worth = d.conserved ∙ sym g.conserved;
-        same-settled = λ none empty. d.finished none ∙ sym (g.finished empty);
-      }

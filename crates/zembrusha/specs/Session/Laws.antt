@@ -17,8 +17,10 @@ use Rattle.sessiontext.specs.SessionText.Faithful.Plain.{plain-faithful}
 use Rattle.sessiontext.specs.SessionText.Faithful.Gathered.{gathered-faithful}
 use Rattle.sessionruns.specs.Run as calculator
 use Rattle.sessionruns.specs.Run.{Standing, after}
-use Rattle.sessionruns.specs.Run.Demand3.{Demand3, demand-3}
-use Rattle.sessionruns.specs.Run.Modes.{GatheredDemand3, gathered-demand-3}
+use Rattle.sessionruns.specs.Run.Demand3.{Demand3}
+use Rattle.sessionruns.proofs.Run.Demand3.{demand-3}
+use Rattle.sessionruns.specs.Run.Modes.{GatheredDemand3}
+use Rattle.sessionruns.proofs.Run.Modes.{gathered-demand-3}
 use Rattle.zembrusha.specs.declared.Handed.{Handed}
 use Rattle.zembrusha.specs.Exports.{handed_run}
 use Rattle.zembrusha.specs.Session.{Call, opened, previewed, committed, watched-whole, watched-ratio}

@@ -38,7 +38,7 @@ rt help stdout crates/NAME CRATE
     'elim z [ | pos n ↦ .. ]', 'r.refused', '.0', '.1', 'parts.now', 'page.old', 'page.new', '&', '&[u8]', '&[..]',
     '&[u64]', '&mut [..]', '&mut [u64]', '&mut [i64]', '!s & (s << h)', 'suc zero', 'extern "C"', '-lzembrusha',
     '--only F', '--start F', 'X: name', 'X.antt', 'specs/X.antt', 'specs/X/', 'proofs/X/', 'proofs/F/',
-    'crate::function', 'In', 'By', 'mode=gathered', 'degree=', 'degree=3', 'class=', 'class=3', 'refused=12',
+    'crate::function', '_in', '_by', 'mode=gathered', 'degree=', 'degree=3', 'class=', 'class=3', 'refused=12',
     'refused=13', 'table 5', '0x2C000000', 'rattle-kit-13f logic dac8208d650f15bf', 'N passed, 0 failed', 'old:',
     'new:', 'pub mod', 'pub fn'}
 

@@ -11,8 +11,8 @@ docs/PORT*.md are, which tell of the move from an older Rattle.
   each call but an export has two or more, or an exception with a reason.
 - Every edit, and every theorem of a Unique.antt, is named: an edit on PROMISES or READING, a theorem on PROMISES.
 - Every definition file is named on READING, every crate has a row on ARCHITECTURE, row k of the refusals names no-k,
-  and the tables that tools/pages.py writes are what it writes. No edit changes a file of proofs/, but for one of
-  theory, where laws stand there, that changes a definition first; and what an edit changes stands in its file once.
+  and the tables that tools/pages.py writes are what it writes. No edit changes a file of proofs/, but for laws of what
+  it changes in specs/ first; and what an edit changes stands in its file once.
 - Decisions are numbered, each number once, and a number that is cited is there; a line of text has at most 120
   characters.
 It tells that a name is there, not that it says what the page claims. Last it tries itself: a page that is changed in
@@ -38,7 +38,7 @@ rt help stdout crates/NAME CRATE
     'elim z [ | pos n ↦ .. ]', 'r.refused', '.0', '.1', 'parts.now', 'page.old', 'page.new', '&', '&[u8]', '&[..]',
     '&[u64]', '&mut [..]', '&mut [u64]', '&mut [i64]', '!s & (s << h)', 'suc zero', 'extern "C"', '-lzembrusha',
     '--only F', '--start F', 'X: name', 'X.antt', 'specs/X.antt', 'specs/X/', 'proofs/X/', 'proofs/F/',
-    'crate::function', 'In', 'By', 'mode=gathered', 'degree=', 'degree=3', 'class=', 'class=3', 'refused=12',
+    'crate::function', '_in', '_by', 'mode=gathered', 'degree=', 'degree=3', 'class=', 'class=3', 'refused=12',
     'refused=13', 'table 5', '0x2C000000', 'rattle-kit-13f logic dac8208d650f15bf', 'N passed, 0 failed', 'old:',
     'new:', 'pub mod', 'pub fn'}
 
@@ -264,9 +264,10 @@ def wrong_rows(texts):
     edits = {file: tree.read(file) for file in glob.glob('crates/*/must-fail/*.edit')}
     for file, text in edits.items():
         changes = re.findall(r'^file: (.*)', text, re.M)
-        laws = ('proofs/',) if file.startswith('crates/theory/') and changes[0].startswith('specs/') else ()
+        crate = file.split('/')[1]
+        laws = tree.laws(crate) if changes[0].startswith('specs/') else []
         for changed in changes:
-            if not changed.startswith(('src/', 'specs/', *laws)):
+            if not changed.startswith(('src/', 'specs/')) and 'crates/%s/%s' % (crate, changed) not in laws:
                 yield '%s changes %s' % (file, changed)
         for old in not_once(file, text):
             yield '%s: not once in its file: %s' % (file, old)

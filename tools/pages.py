@@ -66,8 +66,9 @@ def cited_files(name):
     if first in tree.crates():
         patterns = [['crates/%s.antt' % name]]
     else:
-        patterns = [['crates/theory/%s/%s.antt' % (folder, name) for folder in ('specs', 'proofs')],
-                    ['crates/%s/%s%s.antt' % (crate, folder, name) for crate in tree.crates() for folder in ('specs/', '')]]
+        of_crates = [['crates/%s/%s%s.antt' % (crate, folder, name) for folder in ('specs/', 'proofs/', '')]
+                     for crate in tree.crates()]
+        patterns = [of_crates[tree.crates().index('theory')], sum(of_crates, [])]
     found = [[path for path in paths if os.path.exists(path)] for paths in patterns]
     return next((paths for paths in found if paths), [])
 
@@ -196,11 +197,10 @@ def sizes_table(_):
         folder = 'crates/%s/' % crate
         top = tree.lines_of(folder + 'specs/*.antt')
         private = tree.lines_of(folder + 'specs/Private/**/*.antt')
-        laws = tree.lines_of(folder + 'specs/*/**/*.antt') - private
         proofs = tree.lines_of(folder + 'proofs/**/*.antt')
-        # in a crate without code proofs/ has laws
+        laws = sum(tree.lines_of(file) for file in tree.laws(crate)) if crate in with_code else proofs
         counts = [
-            top, laws if crate in with_code else laws + proofs, private, proofs if crate in with_code else 0,
+            top, tree.lines_of(folder + 'specs/*/**/*.antt') - private + laws, private, proofs - laws,
             tree.lines_of(folder + 'src/**/*.rt'),
             sum(crate in crates for crates in tree.edits().values())]
         rows.append(['`%s`' % crate] + [str(count) if count else '' for count in counts])

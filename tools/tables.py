@@ -74,7 +74,7 @@ with open('crates/classcolumns/specs/Private/Displacements.antt', 'w') as file:
     file.write('-- Made by tools/tables.py: the displacements that give the shape words their places (Places.antt).\n')
     file.write('--   displacement_table     one for each number of eight digits\n')
     file.write('--   largest_displacement   the largest of them\n')
-    file.write('use Rattle.theory.specs.Basics.{List, [], ◌∷◌, ℕ}\n\n')
+    file.write('use Rattle.std.specs.Prelude.{◌∷◌}\nuse Rattle.theory.specs.Basics.{List, [], ℕ}\n\n')
     file.write('abbrev pub largest_displacement : ℕ\nlargest_displacement = %d\n\n' % max(displacements))
     file.write('unfoldable pub displacement_table : List ℕ\ndisplacement_table =\n    ')
     file.write(' ∷\n    '.join(rows) + ' ∷ []\n')

@@ -207,6 +207,17 @@ def module(path):
     return items, imports(text)
 
 
+def laws(crate):
+    """The files of a crate's proofs/ that have laws of its definitions: X.antt and those of X/, where specs/ has X.antt."""
+    found = []
+    for file in sorted(glob.glob('crates/%s/specs/*.antt' % crate)):
+        notion = os.path.basename(file)[:-len('.antt')]
+        if notion not in ('Lib', 'Private'):
+            found += glob.glob('crates/%s/proofs/%s.antt' % (crate, notion))
+            found += glob.glob('crates/%s/proofs/%s/**/*.antt' % (crate, notion), recursive=True)
+    return found
+
+
 def antt_files():
     return [path for crate in crates() for kind in ('specs', 'proofs')
             for path in sorted(glob.glob('crates/%s/%s/**/*.antt' % (crate, kind), recursive=True))]

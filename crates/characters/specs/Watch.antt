@@ -1,5 +1,5 @@
 -- Watches (document 01, "Watches"; "Watch: 6, 7, 15, 8"; "If an answer is an enum"; document 02, P7, "Watches 1 and 4
--- multiply by the coefficient, watch 2 leaves it out"), in a mode m; without `In`, in the plain mode.
+-- multiply by the coefficient, watch 2 leaves it out"), in a mode m; without `_in`, in the plain mode.
 --   Value               a whole number, a ratio, or none
 --   reads answer        for each case of the answer, document 01's refusal number, 0 for none, and value
 --   ratio l             signed character by character degree, in one 64-bit division of exact numbers

@@ -1,6 +1,6 @@
 -- A step in its two halves (document 01, "A step names a line and a cycle"; document 02, P3, "Preview apart from
 -- commit"; P7, "Each hook brings the chosen line's coefficient times its own sign"; a refused commit hands back the
--- slip that it was given), in a mode m; without `In`, in the plain mode.
+-- slip that it was given), in a mode m; without `_in`, in the plain mode.
 --   settled_hooks cycle l     the hook lines of l that have the empty shape; waiting_hooks cycle l, the others
 --   next_lines_in m lines i c  line i is taken out, later lines move down, its hook lines that wait come to the others
 --   next_slip_in m s lines i c the weights of its hooks that leave the empty shape come to settled, steps rise by one

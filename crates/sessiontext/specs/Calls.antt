@@ -1,5 +1,5 @@
 -- What saving and loading promise (document 02, P1: "saving checks 6, 7, 17", "loading checks 6, 16, 10, 7"; P7, "21
--- coefficient column not as long as the page, after 6"), by a form f; without `By`, by the plain form.
+-- coefficient column not as long as the page, after 6"), by a form f; without `_by`, by the plain form.
 --   loaded k line slip   a slip with the refusal number k and, where that is 16, the text's line at fault
 --   save_by f ..          the text of a session at the front of lent bytes, the rest stays, and its length; save_into
 --   load_checks_by f ..    the checks of a load, in their order; load_checks

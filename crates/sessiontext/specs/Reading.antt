@@ -14,7 +14,7 @@
 --   head_faults_by f limit text     the checks of the first six lines behind those in front
 --   fault_by f limit text          the first line that is at fault by one of faults_by, all checks; 0 if there is none
 --   slip_by f text, lines_by f text the slip and the waiting lines that the text is read as
---   without `By`                  these by the plain form; minus_in, whether a minus stands where the sign does
+--   without `_by`                 these by the plain form; minus_in, whether a minus stands where the sign does
 use Rattle.std.specs.Prelude.{◌&&◌, ◌∷◌, ◌++◌, ◌+◌, ◌^◌}
 use Rattle.theory.specs.Basics.{Bool, not, List, [], map, length, get_or, drop, ℕ, suc, ℤ, pos}
 use Rattle.theory.specs.Basics.{◌=?◌, ◌<?◌, ◌≤?◌, same}

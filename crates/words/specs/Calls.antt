@@ -1,6 +1,6 @@
 -- What the calls on one partition promise (document 01, "Words", "The character", second paragraph, "Order"; document
 -- 02, P2 and P6).
--- Each has the name of what it gives; `Into` writes to the front of a lent column. The limit on degrees comes first.
+-- Each has the name of what it gives; `_into` writes to the front of a lent column. The limit on degrees comes first.
 --   shape_reading w           what the one reader of shape words finds: the good word, the ones dropped, the degree
 --   PeriodOfClass w answer   the answer gives the period of the class of the word w, or refuses
 use Rattle.theory.specs.Basics.{ℕ, pos}

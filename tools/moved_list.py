@@ -19,6 +19,8 @@ OTHERS = [
     "crates/sessions/proofs/Step/**/*.antt",
     "crates/sessionruns/proofs/Run/**/*.antt",
 ]
+# what a law of proofs/ speaks of beside the definitions of specs/: it moved along
+DEFINED = re.compile(r" *(?:abbrev(?: pub)?|unfoldable(?: pub)?|(?:pub )?(?:record|data|ruleset)) (\S+)")
 ITEM = re.compile(r" *(?:pub )?[^\s(){},;]+ : ")
 
 
@@ -69,7 +71,7 @@ def main():
         "`tools/moved_list.py`: for each file of `crates/theory/proofs` every statement as it stands there, with the",
         "parameters of its modules. A name marked `pub` can be used by other files. Behind them the same of the other",
         "crates of which theorems moved. Where a definition stayed in `specs/`, the parameters of its module, unsaid",
-        "as long as a theorem stood beside it, are written out.",
+        "as long as a theorem stood beside it, are written out. No statement and no definition changed otherwise.",
     ]
     files = names = 0
     paths = sorted(glob.glob(f"{FROM}/**/*.antt", recursive=True))
@@ -82,6 +84,10 @@ def main():
             files += 1
             names += sum(1 for line in found if ITEM.match(line) and not line.lstrip().startswith(("→", "module", "(", "≡")))
             text += ["", f"## `{path.removeprefix(FROM + '/')}`", "", "```", *found, "```"]
+            with open(path, encoding="utf-8") as it:
+                along = [m[1] for m in map(DEFINED.match, it.read().split("\n")) if m]
+            if along:
+                text += ["", f"Definitions that these laws alone speak of, moved along: {', '.join(f'`{one}`' for one in along)}."]
     with open(TO, "w", encoding="utf-8") as it:
         it.write("\n".join(text) + "\n")
     print(f"{TO}: {files} files, {names} statements")

@@ -1,8 +1,8 @@
 #!/usr/bin/env python3
 """Brings the proofs of one crate from the older names of goals, places and steps to those that Rattle makes today.
 
-    (in crates/NAME) rt check --generated /tmp/names/NAME --old-names
-    python3 tools/name_goals.py NAME /tmp/names/NAME/names.json
+    (in crates/NAME) rt check --generated FOLDER --old-names
+    python3 tools/name_goals.py NAME FOLDER/names.json
 
 Run once for a crate. The list of answers that a proof hands to tie.spec tells which goal each answers: goals stand there
 in the order of the list that rt makes; where the numbers differ, goals are found by name. A place has the steps of all

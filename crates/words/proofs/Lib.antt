@@ -1,3 +1,4 @@
+pub mod Told
 pub mod Answers
 pub mod Callers
 pub mod Measures

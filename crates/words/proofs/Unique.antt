@@ -4,6 +4,7 @@ use Rattle.theory.specs.Limits.{degree_limit}
 use Rattle.words.specs.Answers.Laws.{one-outcome}
 use Rattle.words.specs.Calls.{shape_parts_into, class_parts_into}
 use Rattle.words.specs.Calls.Laws.{one-period-told}
+use Rattle.words.proofs.Told.{word-told-once, number-told-once, count-told-once, good-told-once, shape-told-once}
 use Rattle.words.proofs.shapes.word.Reads as shape-word
 use Rattle.words.proofs.shapes.read.Reads as shape-reading
 use Rattle.words.proofs.shapes.good.Reads as good-shape
@@ -20,49 +21,51 @@ use Rattle.words.proofs.classes.period.Reads as class-period
 -- ---- shapes
 pub shape-word-once : (κs : _) (a : _) (r r' : _) (s s' : _) → shape-word.Post κs a r s → shape-word.Post κs a r' s'
     → r ≡ r'
-shape-word-once κs a r r' s s' p q = p ∙ sym q
+shape-word-once κs a r r' s s' p q = word-told-once (p ∙ sym q)
 
 pub shape-reading-once : (κs : _) (a : _) (r r' : _) (s s' : _) → shape-reading.Post κs a r s
     → shape-reading.Post κs a r' s' → r ≡ r'
-shape-reading-once κs a r r' s s' p q = p ∙ sym q
+shape-reading-once κs a r r' s s' p q = shape-told-once (p ∙ sym q)
 
 pub good-shape-once : (κs : _) (a : _) (r r' : _) (s s' : _) → good-shape.Post κs a r s → good-shape.Post κs a r' s'
     → r ≡ r'
-good-shape-once κs a r r' s s' p q = p ∙ sym q
+good-shape-once κs a r r' s s' p q = good-told-once (p ∙ sym q)
 
 pub shape-parts-once : (κs : _) (a : _) (r r' : _) (s s' : _) → shape-parts.Post κs a r s → shape-parts.Post κs a r' s'
     → (r ≡ r') × (s.1.0.now ≡ s'.1.0.now)
-shape-parts-once κs a r r' s s' p q = one-outcome (shape_parts_into degree_limit a.0 a.1.0.now) p q
+shape-parts-once κs a r r' s s' p q =
+    let one = one-outcome (shape_parts_into degree_limit a.0 a.1.0.now) p q in (count-told-once one.0, one.1)
 
 pub shape-degree-once : (κs : _) (a : _) (r r' : _) (s s' : _) → shape-degree.Post κs a r s
     → shape-degree.Post κs a r' s' → r ≡ r'
-shape-degree-once κs a r r' s s' p q = p ∙ sym q
+shape-degree-once κs a r r' s s' p q = number-told-once (p ∙ sym q)
 
 pub conjugate-once : (κs : _) (a : _) (r r' : _) (s s' : _) → conjugate.Post κs a r s → conjugate.Post κs a r' s'
     → r ≡ r'
-conjugate-once κs a r r' s s' p q = p ∙ sym q
+conjugate-once κs a r r' s s' p q = word-told-once (p ∙ sym q)
 
 -- ---- classes
 pub class-word-once : (κs : _) (a : _) (r r' : _) (s s' : _) → class-word.Post κs a r s → class-word.Post κs a r' s'
     → r ≡ r'
-class-word-once κs a r r' s s' p q = p ∙ sym q
+class-word-once κs a r r' s s' p q = word-told-once (p ∙ sym q)
 
 pub class-parts-once : (κs : _) (a : _) (r r' : _) (s s' : _) → class-parts.Post κs a r s
     → class-parts.Post κs a r' s' → (r ≡ r') × (s.1.0.now ≡ s'.1.0.now)
-class-parts-once κs a r r' s s' p q = one-outcome (class_parts_into degree_limit a.0 a.1.0.now) p q
+class-parts-once κs a r r' s s' p q =
+    let one = one-outcome (class_parts_into degree_limit a.0 a.1.0.now) p q in (count-told-once one.0, one.1)
 
 pub class-degree-once : (κs : _) (a : _) (r r' : _) (s s' : _) → class-degree.Post κs a r s
     → class-degree.Post κs a r' s' → r ≡ r'
-class-degree-once κs a r r' s s' p q = p ∙ sym q
+class-degree-once κs a r r' s s' p q = number-told-once (p ∙ sym q)
 
 pub class-sign-once : (κs : _) (a : _) (r r' : _) (s s' : _) → class-sign.Post κs a r s → class-sign.Post κs a r' s'
     → r ≡ r'
-class-sign-once κs a r r' s s' p q = p ∙ sym q
+class-sign-once κs a r r' s s' p q = number-told-once (p ∙ sym q)
 
 pub class-size-once : (κs : _) (a : _) (r r' : _) (s s' : _) → class-size.Post κs a r s → class-size.Post κs a r' s'
     → r ≡ r'
-class-size-once κs a r r' s s' p q = p ∙ sym q
+class-size-once κs a r r' s s' p q = number-told-once (p ∙ sym q)
 
 pub class-period-once : (κs : _) (a : _) (r r' : _) (s s' : _) → class-period.Post κs a r s
     → class-period.Post κs a r' s' → r ≡ r'
-class-period-once κs a r r' s s' p q = one-period-told degree_limit a.0 p q
+class-period-once κs a r r' s s' p q = number-told-once (one-period-told degree_limit a.0 p q)

@@ -9,15 +9,12 @@ ghost use Rattle.theory.specs.Limits.{degree_limit};
 ghost use Rattle.theory.specs.Bounds.Laws.{largest_limit};
 ghost use Rattle.theory.specs.Refusals.{class_checks};
 ghost use Rattle.theory.specs.Refusals.Laws.{WithinClass};
-ghost use Rattle.words.specs.Answers.{Outcome, at_front};
-ghost use Rattle.words.specs.Private.Reading.{measured, ListWithin};
+ghost use Rattle.words.specs.Answers.{Outcome, at_front, word_told, number_told, count_told};
+ghost use Rattle.words.specs.Private.Reading.{Measured, ListWithin};
 ghost use Rattle.words.specs.Calls.{class_word_from, class_parts_into, class_degree};
 ghost use Rattle.words.specs.Calls.{sign_of_class, size_of_class, PeriodOfClass};
 
-use super::{
-    CountAnswer, DEGREES, LIMIT, Measure, NumberAnswer, WordAnswer, count_within, given, lists,
-    refused,
-};
+use super::{DEGREES, LIMIT, Measure, Refusal, lists, within};
 
 // n! of each degree.
 pub const FACTORIALS: [u64; DEGREES] = [
@@ -57,17 +54,11 @@ fn bits(parts: &[u8]) -> u32
 }
 
 // The class word of a part list. Refuses 3, then 4.
-pub fn word(parts: &[u8]) -> WordAnswer
-    ensures { result ≡ class_word_from degree_limit parts.now }
+pub fn word(parts: &[u8]) -> Result<u32, Refusal>
+    ensures { word_told result ≡ class_word_from degree_limit parts.now }
 {
-    let refused = lists::refusal(parts, 4);
-    if refused != 0 {
-        return WordAnswer { refused, word: 0 };
-    }
-    WordAnswer {
-        refused: 0,
-        word: bits(parts),
-    }
+    lists::refusal(parts, Refusal::ClassTooLarge)?;
+    Ok(bits(parts))
 }
 
 // The degree of a class word: the digit at which its last one stands.
@@ -82,15 +73,11 @@ fn last_one(word: u32) -> u32
 }
 
 // The one reader of class words: leading zeros give the next part, again and again.
-fn read(word: u32) -> Measure
-    ensures { result ≡ measured (class_checks degree_limit word) (class_of word) }
+fn read(word: u32) -> Result<Measure, Refusal>
+    ensures { Measured (class_checks degree_limit word) (class_of word) result }
 {
     if 0x8000_0000 <= word {
-        return Measure {
-            refused: 3,
-            degree: 0,
-            count: 0,
-        };
+        return Err(Refusal::BadClass);
     }
     let mut rest = word;
     let mut at = 0u32;
@@ -100,11 +87,7 @@ fn read(word: u32) -> Measure
         let one = u32::leading_zeros(rest);
         let part = one - at;
         if last < part {
-            return Measure {
-                refused: 3,
-                degree: 0,
-                count: 0,
-            };
+            return Err(Refusal::BadClass);
         }
         last = part;
         count += 1;
@@ -113,17 +96,9 @@ fn read(word: u32) -> Measure
     }
     let degree = last_one(word);
     if LIMIT < degree {
-        return Measure {
-            refused: 4,
-            degree: 0,
-            count: 0,
-        };
+        return Err(Refusal::ClassTooLarge);
     }
-    Measure {
-        refused: 0,
-        degree,
-        count,
-    }
+    Ok(Measure { degree, count })
 }
 
 // The parts of a word to the front of a column that has room.
@@ -145,44 +120,32 @@ fn write_parts(word: u32, column: &mut [u8])
 }
 
 // The parts of a class word, longest first, to the front of a column; their count is the answer. Refuses 3, 4, then 14.
-pub fn parts(word: u32, column: &mut [u8]) -> CountAnswer
-    ensures { Outcome (class_parts_into degree_limit word column.old) result column.new }
+pub fn parts(word: u32, column: &mut [u8]) -> Result<usize, Refusal>
+    ensures { Outcome (class_parts_into degree_limit word column.old) (count_told result) column.new }
 {
-    let answer = count_within(read(word), column.len());
-    if answer.refused != 0 {
-        return answer;
-    }
+    let count = within(read(word)?.count, column.len())?;
     write_parts(word, column);
-    answer
+    Ok(count)
 }
 
 // The degree n of a class word. Refuses 3, then 4.
-pub fn degree(word: u32) -> NumberAnswer
-    ensures { result ≡ class_degree degree_limit word }
+pub fn degree(word: u32) -> Result<i64, Refusal>
+    ensures { number_told result ≡ class_degree degree_limit word }
 {
-    let measure = read(word);
-    if measure.refused != 0 {
-        return refused(measure.refused);
-    }
-    given(measure.degree as u64)
+    let measure = read(word)?;
+    Ok(i64::from(measure.degree))
 }
 
 // The sign of a class: a part p is p - 1 exchanges, so it is minus when the degree less the number of parts is odd.
 // Refuses 3, then 4.
-pub fn sign(word: u32) -> NumberAnswer
-    ensures { result ≡ sign_of_class degree_limit word }
+pub fn sign(word: u32) -> Result<i64, Refusal>
+    ensures { number_told result ≡ sign_of_class degree_limit word }
 {
-    let measure = read(word);
-    if measure.refused != 0 {
-        return refused(measure.refused);
-    }
+    let measure = read(word)?;
     if (measure.degree - measure.count) % 2 == 1 {
-        return NumberAnswer {
-            refused: 0,
-            number: -1,
-        };
+        return Ok(-1);
     }
-    given(1)
+    Ok(1)
 }
 
 // The number by which n! is divided: each part, times how often it has occurred so far.
@@ -212,15 +175,12 @@ fn divisor(word: u32) -> u64
 }
 
 // The number of elements of a class (document 000, formula 3). Refuses 3, then 4.
-pub fn size(word: u32) -> NumberAnswer
-    ensures { result ≡ size_of_class degree_limit word }
+pub fn size(word: u32) -> Result<i64, Refusal>
+    ensures { number_told result ≡ size_of_class degree_limit word }
 {
-    let measure = read(word);
-    if measure.refused != 0 {
-        return refused(measure.refused);
-    }
+    let measure = read(word)?;
     let degree = measure.degree as usize;
-    given(FACTORIALS[degree] / divisor(word))
+    Ok((FACTORIALS[degree] / divisor(word)) as i64)
 }
 
 // By how much a number has to be multiplied so that a part divides it: the first of 1, 2, .. that will do.
@@ -259,12 +219,9 @@ fn least_multiple(word: u32) -> u64
 }
 
 // The period of a class: the least positive number that every part divides. Refuses 3, then 4.
-pub fn period(word: u32) -> NumberAnswer
-    ensures { PeriodOfClass degree_limit word result }
+pub fn period(word: u32) -> Result<i64, Refusal>
+    ensures { PeriodOfClass degree_limit word (number_told result) }
 {
-    let measure = read(word);
-    if measure.refused != 0 {
-        return refused(measure.refused);
-    }
-    given(least_multiple(word))
+    read(word)?;
+    Ok(least_multiple(word) as i64)
 }

@@ -4,9 +4,10 @@ ghost use Rattle.theory.specs.Basics.{get_or};
 ghost use Rattle.theory.specs.Partition.{is_partition, degree};
 ghost use Rattle.theory.specs.Refusals.{first_of};
 ghost use Rattle.theory.specs.Limits.{degree_limit};
+ghost use Rattle.words.specs.Answers.{number_of, refusal_of};
 ghost use Rattle.words.specs.Private.Reading.{list_checks};
 
-use super::LIMIT;
+use super::{LIMIT, Refusal};
 
 // A part, and 0 past the end.
 pub fn part_at(parts: &[u8], i: usize) -> u32
@@ -49,16 +50,15 @@ pub fn capped_degree(parts: &[u8]) -> u32
     degree
 }
 
-// Why a part list is refused: 3 for no partition, then `large` for a degree above the limit; 0 for a list that is not.
-pub fn refusal(parts: &[u8], large: u8) -> u8
-    ensures { result ≡ first_of (list_checks degree_limit large parts.now) }
+// Why a part list is refused: 3 for no partition, then `large` for a degree above the limit.
+pub fn refusal(parts: &[u8], large: Refusal) -> Result<(), Refusal>
+    ensures { refusal_of result ≡ first_of (list_checks degree_limit (number_of large) parts.now) }
 {
     if !is_partition(parts) {
-        return 3;
+        return Err(Refusal::BadClass);
     }
     if LIMIT < capped_degree(parts) {
-        large
-    } else {
-        0
+        return Err(large);
     }
+    Ok(())
 }

@@ -6,15 +6,12 @@ ghost use Rattle.theory.specs.ShapeWord.{shape_word, shape_of, conjugate_word, d
 ghost use Rattle.theory.specs.Limits.{degree_limit};
 ghost use Rattle.theory.specs.Bounds.Laws.{largest_limit};
 ghost use Rattle.theory.specs.Refusals.{shape_checks};
-ghost use Rattle.words.specs.Answers.{Outcome, at_front, reading};
-ghost use Rattle.words.specs.Private.Reading.{measured, ListWithin};
+ghost use Rattle.words.specs.Answers.{Outcome, at_front, word_told, number_told, count_told, good_told, shape_told};
+ghost use Rattle.words.specs.Private.Reading.{Measured, ListWithin};
 ghost use Rattle.words.specs.Calls.{shape_word_from, shape_reading, good_shape_word, shape_parts_into, shape_degree};
 ghost use Rattle.words.specs.Calls.{conjugate_shape};
 
-use super::{
-    CountAnswer, GoodAnswer, LIMIT, Measure, NumberAnswer, ShapeReading, WordAnswer, count_within,
-    given, lists, refused,
-};
+use super::{Good, LIMIT, Measure, Refusal, Shape, lists, within};
 
 // The shape word of a partition within the limit.
 fn bits(parts: &[u8]) -> u32
@@ -35,17 +32,11 @@ fn bits(parts: &[u8]) -> u32
 }
 
 // The shape word of a part list. Refuses 3, then 2.
-pub fn word(parts: &[u8]) -> WordAnswer
-    ensures { result ≡ shape_word_from degree_limit parts.now }
+pub fn word(parts: &[u8]) -> Result<u32, Refusal>
+    ensures { word_told result ≡ shape_word_from degree_limit parts.now }
 {
-    let refused = lists::refusal(parts, 2);
-    if refused != 0 {
-        return WordAnswer { refused, word: 0 };
-    }
-    WordAnswer {
-        refused: 0,
-        word: bits(parts),
-    }
+    lists::refusal(parts, Refusal::ShapeTooLarge)?;
+    Ok(bits(parts))
 }
 
 // The degree of a shape word: each one is paired with the zeros before it.
@@ -86,69 +77,47 @@ fn ones_in_front(word: u32) -> u32
     u32::leading_zeros(!(word << 1))
 }
 
-// A reading that is refused.
-fn unread(number: u8) -> ShapeReading
-    ensures { result ≡ reading number 0 0 0 }
-{
-    ShapeReading {
-        refused: number,
-        word: 0,
-        dropped: 0,
-        degree: 0,
-    }
-}
-
 // The one reader of shape words: it drops the ones in front and gives the good word that is left, for whoever hands it
 // on or looks it up. Degree and rows, which they do not change, are taken from the word as it came. Refuses 1, then 2.
-pub fn read(word: u32) -> ShapeReading
-    ensures { result ≡ shape_reading degree_limit word }
+pub fn read(word: u32) -> Result<Shape, Refusal>
+    ensures { shape_told result ≡ shape_reading degree_limit word }
 {
     if 0x8000_0000 <= word {
-        return unread(1);
+        return Err(Refusal::BadShape);
     }
     let degree = pairs(word);
     if LIMIT < degree {
-        return unread(2);
+        return Err(Refusal::ShapeTooLarge);
     }
     let dropped = ones_in_front(word);
     let good = (word << dropped) % 0x8000_0000;
-    ShapeReading {
-        refused: 0,
+    Ok(Shape {
         word: good,
         dropped,
         degree,
-    }
+    })
 }
 
 // The good word of a shape word, and how many ones in front were dropped. Refuses 1, then 2.
-pub fn good(word: u32) -> GoodAnswer
-    ensures { result ≡ good_shape_word degree_limit word }
+pub fn good(word: u32) -> Result<Good, Refusal>
+    ensures { good_told result ≡ good_shape_word degree_limit word }
 {
-    let shape = read(word);
-    GoodAnswer {
-        refused: shape.refused,
+    let shape = read(word)?;
+    Ok(Good {
         word: shape.word,
         dropped: shape.dropped,
-    }
+    })
 }
 
 // What is told of the rows of a shape word, which ones in front do not change.
-fn measure(word: u32) -> Measure
-    ensures { result ≡ measured (shape_checks degree_limit word) (shape_of word) }
+fn measure(word: u32) -> Result<Measure, Refusal>
+    ensures { Measured (shape_checks degree_limit word) (shape_of word) result }
 {
-    let shape = read(word);
-    if shape.refused != 0 {
-        return Measure {
-            refused: shape.refused,
-            degree: 0,
-            count: 0,
-        };
-    }
-    Measure {
-        refused: 0,
+    let shape = read(word)?;
+    Ok(Measure {
         degree: shape.degree,
         count: row_count(word),
-    }
+    })
 }
 
 // The rows of a word to the front of a column that has room.
@@ -174,26 +143,20 @@ fn write_rows(word: u32, column: &mut [u8])
 }
 
 // The rows of a shape word, longest first, to the front of a column; their count is the answer. Refuses 1, 2, then 14.
-pub fn parts(word: u32, column: &mut [u8]) -> CountAnswer
-    ensures { Outcome (shape_parts_into degree_limit word column.old) result column.new }
+pub fn parts(word: u32, column: &mut [u8]) -> Result<usize, Refusal>
+    ensures { Outcome (shape_parts_into degree_limit word column.old) (count_told result) column.new }
 {
-    let answer = count_within(measure(word), column.len());
-    if answer.refused != 0 {
-        return answer;
-    }
+    let count = within(measure(word)?.count, column.len())?;
     write_rows(word, column);
-    answer
+    Ok(count)
 }
 
 // The degree n of a shape word. Refuses 1, then 2.
-pub fn degree(word: u32) -> NumberAnswer
-    ensures { result ≡ shape_degree degree_limit word }
+pub fn degree(word: u32) -> Result<i64, Refusal>
+    ensures { number_told result ≡ shape_degree degree_limit word }
 {
-    let shape = read(word);
-    if shape.refused != 0 {
-        return refused(shape.refused);
-    }
-    given(shape.degree as u64)
+    let shape = read(word)?;
+    Ok(i64::from(shape.degree))
 }
 
 // The digits up to the last one, in reverse order and complemented.
@@ -217,18 +180,9 @@ fn flipped(word: u32) -> u32
 }
 
 // The shape word of the conjugate shape. Refuses 1, then 2.
-pub fn conjugate(word: u32) -> WordAnswer
-    ensures { result ≡ conjugate_shape degree_limit word }
+pub fn conjugate(word: u32) -> Result<u32, Refusal>
+    ensures { word_told result ≡ conjugate_shape degree_limit word }
 {
-    let shape = read(word);
-    if shape.refused != 0 {
-        return WordAnswer {
-            refused: shape.refused,
-            word: 0,
-        };
-    }
-    WordAnswer {
-        refused: 0,
-        word: flipped(shape.word),
-    }
+    let shape = read(word)?;
+    Ok(flipped(shape.word))
 }

@@ -1,26 +1,17 @@
 -- What is found of the parts of a word, and of a part list.
---   measure k d n               a measure by its fields: the number that refuses, the degree, the number of parts
---   measured checks ps          the measure of the parts ps, unless a check refuses
---   count_within m room          the count of the parts measured, where so many have room
+--   Measured checks ps r        r gives the degree of the parts ps and how many they are, unless a check refuses
 --   list_checks limit large ps   what a part list is refused by, where `large` refuses a degree above the limit
 --   ListWithin limit ps         ps is a partition, and its degree is within the limit
-use Rattle.std.specs.Prelude.{◌≡◌, ◌≤◌, ◌∷◌}
-use Rattle.theory.specs.Basics.{true, cond, List, [], length, ℕ, ◌<?◌}
+use Rattle.std.specs.Prelude.{◌≡◌, ◌≤◌, ◌∷◌, IfOk}
+use Rattle.theory.specs.Basics.{true, List, [], length, ℕ, ◌<?◌}
 use Rattle.theory.specs.Partition.{Parts, is_partition, degree}
-use Rattle.theory.specs.Refusals.{Check, first_of, refused_or, no-3-list}
+use Rattle.theory.specs.Refusals.{Check, first_of, no-3-list}
 use Rattle.words.specs.declared.Measure.{Measure}
-use Rattle.words.specs.Answers.{count_answer, CountAnswer}
+use Rattle.words.specs.Answers.{Result, Refusal, refusal_of}
 
-abbrev pub measure : ℕ → ℕ → ℕ → Measure
-measure k d n = record { refused = k; degree = d; count = n }
-
-unfoldable pub measured : List Check → Parts → Measure
-measured checks ps = refused_or (first_of checks) (λ k. measure k 0 0) (measure 0 (degree ps) (length ps))
-
-abbrev pub count_within : Measure → ℕ → CountAnswer
-count_within m room =
-    refused_or m.refused (λ k. count_answer k 0)
-    (cond (room <? m.count) (count_answer 14 0) (count_answer 0 m.count))
+pub record Measured (checks : List Check) (ps : Parts) (r : Result Measure Refusal) : Type 0 where
+  pub refused : refusal_of r ≡ first_of checks
+  pub given : IfOk r (λ m. (m.degree ≡ degree ps) × (m.count ≡ length ps))
 
 abbrev pub list_checks : ℕ → ℕ → Parts → List Check
 list_checks limit large ps = no-3-list ps ∷ (limit <? degree ps, large) ∷ []

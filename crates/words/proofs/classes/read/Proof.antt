@@ -15,8 +15,9 @@ use Rattle.theory.specs.ClassWord.{class_of, good_class}
 use Rattle.theory.proofs.ClassWord.Laws.{degree-parts, good-of-below, bad-above}
 use Rattle.theory.specs.Refusals.{class_checks}
 use Rattle.theory.specs.Limits.{degree_limit}
-use Rattle.words.specs.Private.Reading.{measure, measured}
-use Rattle.words.proofs.Measures.{measured-refused, measured-given}
+use Rattle.words.specs.Answers.{Err}
+use Rattle.words.specs.declared.refusal.Refusal.TheVariants.{BadClass}
+use Rattle.words.specs.Private.Reading.{Measured}
 use Rattle.words.proofs.ClassLoops.{parts_left, NextPart, next-part, no-parts-left}
 use Rattle.words.proofs.classes.read.Statement.{statement}
 use Rattle.words.proofs.classes.read.Tie as tie
@@ -33,8 +34,8 @@ decreases-loop-rest word rest₀ at₀ last₀ count₀ rest at last count = res
 step : (c : tie.In-loop-rest invariant-loop-rest decreases-loop-rest) → NextPart c.loop-rest.at c.loop-rest.rest
 step c = next-part _ _ c.loop-rest-test.true c.loop-rest.invariant.1
 
-refused : (w : ℕ) → good_class w ≡ false → measure 3 0 0 ≡ measured (class_checks degree_limit w) (class_of w)
-refused w bad = measured-refused (class_checks degree_limit w) (class_of w) 3 (rw bad) (λ z. omega arith)
+refused : (w : ℕ) → good_class w ≡ false → Measured (class_checks degree_limit w) (class_of w) (Err BadClass)
+refused w bad = record { refused = rw bad; given = tt }
 
 -- the parts of the rest: when another is read, and when none is left
 abbrev left : tie.At-loop-rest invariant-loop-rest decreases-loop-rest → Parts
@@ -110,7 +111,7 @@ returns-3 : tie.Need-returns-then-degree-gt-LIMIT invariant-loop-rest decreases-
 returns-3 c =
     let w : ℕ = class c.before.before in
     let large = lt-ltb degree_limit (degree (class_of w)) (omega (arith, c.last_one-degree.ensures)) in
-    measured-refused (class_checks degree_limit w) (class_of w) 4 (rw (good c.before.before, large)) (λ z. omega arith)
+    record { refused = rw (good c.before.before, large); given = tt }
 
 returns-4 : tie.Need-returns invariant-loop-rest decreases-loop-rest
 returns-4 c =
@@ -118,7 +119,7 @@ returns-4 c =
     let n = c.last_one-degree.ensures in
     let within = le-ltb degree_limit (degree (class_of w)) (omega (arith, n)) in
     let counted = ap length (none c.before.before) in
-    measured-given (class_checks degree_limit w) (class_of w) _ _ (rw (good c.before.before, within)) n (omega arith)
+    record { refused = rw (good c.before.before, within); given = (n, omega arith) }
 
 pub read_spec : {M : Type 1} → statement M
 read_spec =

@@ -1,0 +1,111 @@
+-- What is told of a call says what the call gave: no refusal has the number 0, no two have one number, and no two results
+-- are told alike.
+use mathlib.Core.Path.{◌≡◌, refl, sym, ◌∙◌, ap}
+use native.Mathlib.Omega.{arith}
+use Rattle.theory.specs.Basics.{ℕ, ℤ, pos, cond, ◌=?◌}
+use Rattle.words.specs.Answers.{Result, Ok, Err, Refusal, Good, Shape, number_of, told, refusal_of}
+use Rattle.words.specs.Answers.{word_told, number_told, count_told, good_told, shape_told}
+use Rattle.words.specs.Answers.{word_answer, number_answer, count_answer, good_answer, reading}
+use Rattle.words.specs.Answers.{WordAnswer, NumberAnswer, CountAnswer, GoodAnswer, ShapeReading}
+use Rattle.words.specs.declared.refusal.Refusal.TheVariants.{BadShape, ShapeTooLarge, BadClass, ClassTooLarge, DegreesDiffer, PageTooLong}
+use Rattle.words.specs.declared.refusal.Refusal.TheVariants.{NotSound, NoSuchLine, NoSuchCycle, PageFull, NoSuchRank, DegreeTooLarge, BadInput}
+use Rattle.words.specs.declared.refusal.Refusal.TheVariants.{ColumnTooShort, NoSuchKind, BadText, BufferTooShort, StripTooShort}
+use Rattle.words.specs.declared.refusal.Refusal.TheVariants.{NotThatPreview, BadLengths, BadCoefficients}
+
+-- ---- numbers
+abbrev refusal : ℕ → Refusal
+refusal k =
+    cond (k =? 1) BadShape (cond (k =? 2) ShapeTooLarge (cond (k =? 3) BadClass (cond (k =? 4) ClassTooLarge (cond (k =? 5) DegreesDiffer (cond (k =? 6) PageTooLong (cond (k =? 7) NotSound (cond (k =? 8) NoSuchLine (cond (k =? 9) NoSuchCycle (cond (k =? 10) PageFull (cond (k =? 11) NoSuchRank (cond (k =? 12) DegreeTooLarge (cond (k =? 13) BadInput (cond (k =? 14) ColumnTooShort (cond (k =? 15) NoSuchKind (cond (k =? 16) BadText (cond (k =? 17) BufferTooShort (cond (k =? 18) StripTooShort (cond (k =? 19) NotThatPreview (cond (k =? 20) BadLengths BadCoefficients)))))))))))))))))))
+
+refusal-back : (e : Refusal) → refusal (number_of e) ≡ e
+refusal-back BadShape = refl
+refusal-back ShapeTooLarge = refl
+refusal-back BadClass = refl
+refusal-back ClassTooLarge = refl
+refusal-back DegreesDiffer = refl
+refusal-back PageTooLong = refl
+refusal-back NotSound = refl
+refusal-back NoSuchLine = refl
+refusal-back NoSuchCycle = refl
+refusal-back PageFull = refl
+refusal-back NoSuchRank = refl
+refusal-back DegreeTooLarge = refl
+refusal-back BadInput = refl
+refusal-back ColumnTooShort = refl
+refusal-back NoSuchKind = refl
+refusal-back BadText = refl
+refusal-back BufferTooShort = refl
+refusal-back StripTooShort = refl
+refusal-back NotThatPreview = refl
+refusal-back BadLengths = refl
+refusal-back BadCoefficients = refl
+
+pub number-once : {d e : Refusal} → number_of d ≡ number_of e → d ≡ e
+number-once {d} {e} same = sym (refusal-back d) ∙ ap refusal same ∙ refusal-back e
+
+pub refuses : (e : Refusal) → number_of e ≡ 0 → ⊥
+refuses BadShape z = omega (arith, z)
+refuses ShapeTooLarge z = omega (arith, z)
+refuses BadClass z = omega (arith, z)
+refuses ClassTooLarge z = omega (arith, z)
+refuses DegreesDiffer z = omega (arith, z)
+refuses PageTooLong z = omega (arith, z)
+refuses NotSound z = omega (arith, z)
+refuses NoSuchLine z = omega (arith, z)
+refuses NoSuchCycle z = omega (arith, z)
+refuses PageFull z = omega (arith, z)
+refuses NoSuchRank z = omega (arith, z)
+refuses DegreeTooLarge z = omega (arith, z)
+refuses BadInput z = omega (arith, z)
+refuses ColumnTooShort z = omega (arith, z)
+refuses NoSuchKind z = omega (arith, z)
+refuses BadText z = omega (arith, z)
+refuses BufferTooShort z = omega (arith, z)
+refuses StripTooShort z = omega (arith, z)
+refuses NotThatPreview z = omega (arith, z)
+refuses BadLengths z = omega (arith, z)
+refuses BadCoefficients z = omega (arith, z)
+
+-- ---- results
+module _ {A B : Type 0} (answer : ℕ → A → B) (none : A) (number : B → ℕ) (value : B → A)
+    (numbers : (k : ℕ) (x : A) → number (answer k x) ≡ k) (values : (k : ℕ) (x : A) → value (answer k x) ≡ x) where
+  same-number : {j k : ℕ} {x y : A} → answer j x ≡ answer k y → j ≡ k
+  same-number {j} {k} {x} {y} e = sym (numbers j x) ∙ ap number e ∙ numbers k y
+
+  pub told-once : (r s : Result A Refusal) → told answer none r ≡ told answer none s → r ≡ s
+  told-once (Ok x) (Ok y) e = ap Ok (sym (values 0 x) ∙ ap value e ∙ values 0 y)
+  told-once (Ok x) (Err d) e = absurd (refuses d (sym (same-number e)))
+  told-once (Err d) (Ok y) e = absurd (refuses d (same-number e))
+  told-once (Err c) (Err d) e = ap Err (number-once (same-number e))
+
+pub word-told-once : {r s : Result ℕ Refusal} → word_told r ≡ word_told s → r ≡ s
+word-told-once {r} {s} =
+    told-once word_answer 0 (λ (a : WordAnswer). a.refused) (λ (a : WordAnswer). a.word) (λ k x. refl) (λ k x. refl) r s
+
+pub number-told-once : {r s : Result ℤ Refusal} → number_told r ≡ number_told s → r ≡ s
+number-told-once {r} {s} =
+    told-once number_answer (pos 0) (λ (a : NumberAnswer). a.refused) (λ (a : NumberAnswer). a.number) (λ k x. refl)
+    (λ k x. refl) r s
+
+pub count-told-once : {r s : Result ℕ Refusal} → count_told r ≡ count_told s → r ≡ s
+count-told-once {r} {s} =
+    told-once count_answer 0 (λ (a : CountAnswer). a.refused) (λ (a : CountAnswer). a.count) (λ k x. refl)
+    (λ k x. refl) r s
+
+pub good-told-once : {r s : Result Good Refusal} → good_told r ≡ good_told s → r ≡ s
+good-told-once {r} {s} =
+    told-once (λ k (g : Good). good_answer k g.word g.dropped) (record { word = 0; dropped = 0 })
+    (λ (a : GoodAnswer). a.refused) (λ (a : GoodAnswer). record { word = a.word; dropped = a.dropped }) (λ k x. refl)
+    (λ k x. refl) r s
+
+pub shape-told-once : {r s : Result Shape Refusal} → shape_told r ≡ shape_told s → r ≡ s
+shape-told-once {r} {s} =
+    told-once (λ k (s : Shape). reading k s.word s.dropped s.degree) (record { word = 0; dropped = 0; degree = 0 })
+    (λ (a : ShapeReading). a.refused)
+    (λ (a : ShapeReading). record { word = a.word; dropped = a.dropped; degree = a.degree }) (λ k x. refl)
+    (λ k x. refl) r s
+
+-- a result that is told as one whose number is 0 was given
+pub given-where : {A : Type 0} (r : Result A Refusal) → refusal_of r ≡ 0 → (x : A) × (r ≡ Ok x)
+given-where (Ok x) z = (x, refl)
+given-where (Err e) z = absurd (refuses e z)

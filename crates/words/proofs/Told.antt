@@ -2,7 +2,12 @@
 -- are told alike.
 use mathlib.Core.Path.{◌≡◌, refl, sym, ◌∙◌, ap}
 use native.Mathlib.Omega.{arith}
-use Rattle.theory.specs.Basics.{ℕ, ℤ, pos, cond, ◌=?◌}
+use borrow.Author.Tests.{clash}
+use denote.Enum.Bare.{same_true, same_false}
+use Rattle.std.specs.Result.{result_eq}
+use Rattle.words.specs.contracts.refusal.RefusalPartialEq.TheImpl.{eq-value}
+use Rattle.words.specs.contracts.refusal.Refusal.{the_type}
+use Rattle.theory.specs.Basics.{Bool, true, false, ℕ, ℤ, pos, cond, ◌=?◌}
 use Rattle.words.specs.Answers.{Result, Ok, Err, Refusal, Good, Shape, number_of, told, refusal_of}
 use Rattle.words.specs.Answers.{word_told, number_told, count_told, good_told, shape_told}
 use Rattle.words.specs.Answers.{word_answer, number_answer, count_answer, good_answer, reading}
@@ -105,7 +110,40 @@ shape-told-once {r} {s} =
     (λ (a : ShapeReading). record { word = a.word; dropped = a.dropped; degree = a.degree }) (λ k x. refl)
     (λ k x. refl) r s
 
+-- ---- what refuses
+pub word-told-number : (r : Result ℕ Refusal) → (word_told r).refused ≡ refusal_of r
+word-told-number (Ok x) = refl
+word-told-number (Err e) = refl
+
+pub number-told-number : (r : Result ℤ Refusal) → (number_told r).refused ≡ refusal_of r
+number-told-number (Ok x) = refl
+number-told-number (Err e) = refl
+
+pub count-told-number : (r : Result ℕ Refusal) → (count_told r).refused ≡ refusal_of r
+count-told-number (Ok x) = refl
+count-told-number (Err e) = refl
+
+pub shape-told-number : (r : Result Shape Refusal) → (shape_told r).refused ≡ refusal_of r
+shape-told-number (Ok x) = refl
+shape-told-number (Err e) = refl
+
 -- a result that is told as one whose number is 0 was given
 pub given-where : {A : Type 0} (r : Result A Refusal) → refusal_of r ≡ 0 → (x : A) × (r ≡ Ok x)
 given-where (Ok x) z = (x, refl)
 given-where (Err e) z = absurd (refuses e z)
+
+-- a test for one refusal
+module _ {A : Type 0} (one : A → A → Bool) (r : Result A Refusal) (e : Refusal) where
+  pub is-refused : result_eq one eq-value.it r (Err e) ≡ true → refusal_of r ≡ number_of e
+  is-refused is = go r is
+    where
+      go : (r : Result A Refusal) → result_eq one eq-value.it r (Err e) ≡ true → refusal_of r ≡ number_of e
+      go (Ok x) is = absurd (clash is)
+      go (Err d) is = ap number_of (same_true the_type tt d e is)
+
+  pub not-refused : result_eq one eq-value.it r (Err e) ≡ false → refusal_of r ≡ number_of e → ⊥
+  not-refused isn't = go r isn't
+    where
+      go : (r : Result A Refusal) → result_eq one eq-value.it r (Err e) ≡ false → refusal_of r ≡ number_of e → ⊥
+      go (Ok x) other same = refuses e (sym same)
+      go (Err d) other same = same_false the_type d e other (number-once same)

@@ -8,7 +8,7 @@ ghost use Rattle.words.specs.declared.refusal.Refusal.TheVariants.{ColumnTooShor
 
 pub mod classes;
 mod lists;
-mod refusal;
+pub mod refusal;
 pub mod shapes;
 
 pub use refusal::Refusal;

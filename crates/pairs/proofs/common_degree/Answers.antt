@@ -1,0 +1,47 @@
+-- `pairs::common_degree`: what the reading of the one word and the degree of the other answer is taken in the order of
+-- the checks.
+use Rattle.std.proofs.Common.{sym, ap, ◌∙◌}
+use mir.Syntax.{w64}
+use mir.Val.{of_z}
+use Rattle.std.proofs.lemmas.Result.{err_from_is_err_and}
+use Rattle.words.specs.declared.refusal.Refusal.TheVariants.{BadShape, BadClass}
+use Rattle.words.proofs.Told.{is-refused, not-refused}
+use Rattle.pairs.proofs.WordPairs.{refused-1, refused-3, refused-shape, refused-class, refused-5, agrees}
+use Rattle.pairs.proofs.common_degree.Goals as goal
+
+pub returns-then-eq : goal.returns-then-eq
+returns-then-eq c =
+    refused-1 (record { of-shape = c.read-of_shape.ensures; of-class = c.degree-of_class.ensures })
+    (is-refused _ _ BadShape (sym c.eq.ensures ∙ c.if-eq.true))
+
+pub returns-then-eq-2 : goal.returns-then-eq-2
+returns-then-eq-2 c =
+    refused-3 (record { of-shape = c.read-of_shape.ensures; of-class = c.degree-of_class.ensures })
+    (not-refused _ _ BadShape (sym c.eq.ensures ∙ c.if-eq.false))
+    (is-refused _ _ BadClass (sym c.eq-2.ensures ∙ c.if-eq-2.true))
+
+pub returns-in_err-shape : goal.returns-in_err-shape
+returns-in_err-shape c =
+    let p = err_from_is_err_and c.from_residual.result c.from_residual.ensures.1 in
+    rw (p.1, p.2)
+    (refused-shape (record { of-shape = c.read-of_shape.ensures; of-class = c.degree-of_class.ensures })
+    (not-refused _ _ BadShape (sym c.eq.ensures ∙ c.if-eq.false))
+    (not-refused _ _ BadClass (sym c.eq-2.ensures ∙ c.if-eq-2.false)) c.in_err-shape.was)
+
+pub returns-in_err-degree : goal.returns-in_err-degree
+returns-in_err-degree c =
+    let p = err_from_is_err_and c.from_residual-in_err-degree.result c.from_residual-in_err-degree.ensures.1 in
+    rw (p.1, p.2)
+    (refused-class (record { of-shape = c.read-of_shape.ensures; of-class = c.degree-of_class.ensures })
+    (not-refused _ _ BadShape (sym c.eq.ensures ∙ c.if-eq.false))
+    (not-refused _ _ BadClass (sym c.eq-2.ensures ∙ c.if-eq-2.false)) c.in_ok-shape.was c.in_err-degree.was)
+
+pub returns-then-from-degree : goal.returns-then-from-degree
+returns-then-from-degree c =
+    refused-5 (record { of-shape = c.read-of_shape.ensures; of-class = c.degree-of_class.ensures }) c.in_ok-shape.was
+    c.in_ok-degree.was (λ e. c.if-from-degree.true (ap (of_z w64) c.from.ensures ∙ e))
+
+pub returns : goal.returns
+returns c =
+    agrees (record { of-shape = c.read-of_shape.ensures; of-class = c.degree-of_class.ensures }) c.in_ok-shape.was
+    c.in_ok-degree.was (sym (ap (of_z w64) c.from.ensures) ∙ c.if-from-degree.false)

@@ -4,10 +4,8 @@
 --   Pair limit s c j      what is told of the common degree j that the words s and c were given
 use Rattle.std.specs.Prelude.{◌∷◌}
 use mathlib.Core.Path.{◌≡◌, refl, sym, ◌∙◌, ap}
-use mir.Syntax.{w64}
-use mir.Val.{of_z}
 use borrow.Author.Tests.{eq-eqb, ne_eqb}
-use Rattle.theory.specs.Basics.{Bool, true, false, cond, [], ℕ, ℤ, ◌=?◌, pos}
+use Rattle.theory.specs.Basics.{Bool, true, false, cond, [], ℕ, ◌=?◌, nat_abs}
 use Rattle.theory.specs.Partition.{degree}
 use Rattle.theory.specs.ShapeWord.{shape_of, good_word}
 use Rattle.theory.proofs.ShapeWord.InFront.{dropped-shape}
@@ -20,8 +18,8 @@ use Rattle.std.specs.declared.result.Result.{Result}
 use Rattle.std.specs.declared.result.Result.TheVariants.{Ok, Err}
 use Rattle.words.specs.declared.refusal.Refusal.{Refusal}
 use Rattle.words.specs.declared.Shape.{Shape}
-use Rattle.words.specs.Answers.{NumberAnswer, number_of, refusal_of, shape_told, number_told}
-use Rattle.words.proofs.Told.{refuses, told-once, shape-told-number, number-told-number}
+use Rattle.words.specs.Answers.{NumberAnswer, number_of, refusal_of, shape_told, degree_told}
+use Rattle.words.proofs.Told.{refuses, told-once, shape-told-number, degree-told-number}
 use Rattle.words.specs.Calls.{shape_reading, class_degree}
 use Rattle.words.proofs.Callers.{number-given-by}
 use Rattle.words.proofs.Readings.{ShapeRead, reading-number, shape-read}
@@ -43,9 +41,9 @@ in_order_lem false false false true rest = refl
 in_order_lem false false false false rest = refl
 
 -- ---- the common degree
-pub record Asked (limit s c : ℕ) (a : Result Shape Refusal) (b : Result ℤ Refusal) : Type 0 where
+pub record Asked (limit s c : ℕ) (a : Result Shape Refusal) (b : Result ℕ Refusal) : Type 0 where
   pub of-shape : shape_told a ≡ shape_reading limit s
-  pub of-class : number_told b ≡ class_degree limit c
+  pub of-class : degree_told b ≡ class_degree limit c
 
 -- the second of two numbers, where it is neither the first nor none
 other_number : {j k : ℕ} (no-j no-k : Bool) → (cond no-j j (cond no-k k 0) ≡ j → ⊥)
@@ -54,7 +52,7 @@ other_number true no-k m n = absurd (m refl)
 other_number false true m n = refl
 other_number false false m n = absurd (n refl)
 
-module _ {limit s c : ℕ} {a : Result Shape Refusal} {b : Result ℤ Refusal} (asked : Asked limit s c a b) where
+module _ {limit s c : ℕ} {a : Result Shape Refusal} {b : Result ℕ Refusal} (asked : Asked limit s c a b) where
   abbrev Answers : ℕ → ℕ → ℕ → Type 0
   Answers k w n = common_degree k w n ≡ degree_of_both limit s c
 
@@ -63,7 +61,7 @@ module _ {limit s c : ℕ} {a : Result Shape Refusal} {b : Result ℤ Refusal} (
 
   by-class : refusal_of b ≡ first_of (class_checks limit c)
   unfolding class_degree
-  by-class = sym (number-told-number b) ∙ numbered-refusal (class_checks limit c) _ _ asked.of-class
+  by-class = sym (degree-told-number b) ∙ numbered-refusal (class_checks limit c) _ _ asked.of-class
 
   order : first_of (pair_checks limit s c)
       ≡ in_order (refusal_of a) (refusal_of b) (first_of (no-5 (shape_of s) (class_of c) ∷ []))
@@ -102,7 +100,7 @@ module _ {limit s c : ℕ} {a : Result Shape Refusal} {b : Result ℤ Refusal} (
           let none : refusal_of a ≡ 0 = ap refusal_of passes in
           rw (is, order, none, ne_eqb _ 3 not-3, ne_eqb _ 0 some, four)
 
-  module _ {x : Shape} {d : ℤ} (passes : a ≡ Ok x) (passes-too : b ≡ Ok d) where
+  module _ {x : Shape} {d : ℕ} (passes : a ≡ Ok x) (passes-too : b ≡ Ok d) where
     none : refusal_of a ≡ 0
     none = ap refusal_of passes
 
@@ -112,19 +110,19 @@ module _ {limit s c : ℕ} {a : Result Shape Refusal} {b : Result ℤ Refusal} (
     of_one : ShapeRead limit s (shape_told (Ok x))
     of_one = shape-read limit s _ (sym (ap shape_told passes) ∙ asked.of-shape) refl
 
-    of_other : d ≡ pos (degree (class_of c))
+    of_other : d ≡ degree (class_of c)
     unfolding class_degree
     of_other =
-        let told = sym (ap number_told passes-too) ∙ asked.of-class in
-        ap (λ (x : NumberAnswer). x.number) (number-given-by (class_checks limit c) _ (number_told (Ok d)) told refl).1
+        let told = sym (ap degree_told passes-too) ∙ asked.of-class in
+        ap (λ (x : NumberAnswer). nat_abs x.number) (number-given-by (class_checks limit c) _ (degree_told (Ok d)) told refl).1
 
-    pub refused-5 : (of_z w64 (pos x.degree) ≡ of_z w64 d → ⊥) → Answers 5 0 0
+    pub refused-5 : (x.degree ≡ d → ⊥) → Answers 5 0 0
     unfolding degree_of_both
     refused-5 n =
         let differ = ne_eqb (degree (shape_of s)) (degree (class_of c)) (rw (of_one.degree, of_other) at n) in
         rw (order, none, none-too, differ)
 
-    pub agrees : of_z w64 (pos x.degree) ≡ of_z w64 d → Answers 0 x.word x.degree
+    pub agrees : x.degree ≡ d → Answers 0 x.word x.degree
     unfolding degree_of_both
     agrees e =
         let same = eq-eqb (degree (shape_of s)) (degree (class_of c)) (rw (of_one.degree, of_other) at e) in

@@ -29,7 +29,7 @@ pub fn common_degree(shape: u32, class: u32) -> Result<Common, Refusal>
     }
     let shape = of_shape?;
     let degree = of_class?;
-    if i64::from(shape.degree) != degree {
+    if shape.degree != degree {
         return Err(Refusal::DegreesDiffer);
     }
     Ok(Common {

@@ -7,9 +7,9 @@ use denote.Enum.Bare.{same_true, same_false}
 use Rattle.std.specs.Result.{result_eq}
 use Rattle.words.specs.contracts.refusal.RefusalPartialEq.TheImpl.{eq-value}
 use Rattle.words.specs.contracts.refusal.Refusal.{the_type}
-use Rattle.theory.specs.Basics.{Bool, true, false, ℕ, ℤ, pos, cond, ◌=?◌}
+use Rattle.theory.specs.Basics.{Bool, true, false, ℕ, ℤ, pos, nat_abs, cond, ◌=?◌}
 use Rattle.words.specs.Answers.{Result, Ok, Err, Refusal, Good, Shape, number_of, told, refusal_of}
-use Rattle.words.specs.Answers.{word_told, number_told, count_told, good_told, shape_told}
+use Rattle.words.specs.Answers.{word_told, number_told, degree_told, count_told, good_told, shape_told}
 use Rattle.words.specs.Answers.{word_answer, number_answer, count_answer, good_answer, reading}
 use Rattle.words.specs.Answers.{WordAnswer, NumberAnswer, CountAnswer, GoodAnswer, ShapeReading}
 use Rattle.words.specs.declared.refusal.Refusal.TheVariants.{BadShape, ShapeTooLarge, BadClass, ClassTooLarge, DegreesDiffer, PageTooLong}
@@ -92,6 +92,11 @@ number-told-once {r} {s} =
     told-once number_answer (pos 0) (λ (a : NumberAnswer). a.refused) (λ (a : NumberAnswer). a.number) (λ k x. refl)
     (λ k x. refl) r s
 
+pub degree-told-once : {r s : Result ℕ Refusal} → degree_told r ≡ degree_told s → r ≡ s
+degree-told-once {r} {s} =
+    told-once (λ k n. number_answer k (pos n)) 0 (λ (a : NumberAnswer). a.refused)
+    (λ (a : NumberAnswer). nat_abs a.number) (λ k x. refl) (λ k x. refl) r s
+
 pub count-told-once : {r s : Result ℕ Refusal} → count_told r ≡ count_told s → r ≡ s
 count-told-once {r} {s} =
     told-once count_answer 0 (λ (a : CountAnswer). a.refused) (λ (a : CountAnswer). a.count) (λ k x. refl)
@@ -118,6 +123,10 @@ word-told-number (Err e) = refl
 pub number-told-number : (r : Result ℤ Refusal) → (number_told r).refused ≡ refusal_of r
 number-told-number (Ok x) = refl
 number-told-number (Err e) = refl
+
+pub degree-told-number : (r : Result ℕ Refusal) → (degree_told r).refused ≡ refusal_of r
+degree-told-number (Ok x) = refl
+degree-told-number (Err e) = refl
 
 pub count-told-number : (r : Result ℕ Refusal) → (count_told r).refused ≡ refusal_of r
 count-told-number (Ok x) = refl

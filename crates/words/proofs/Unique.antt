@@ -4,7 +4,7 @@ use Rattle.theory.specs.Limits.{degree_limit}
 use Rattle.words.specs.Answers.Laws.{one-outcome}
 use Rattle.words.specs.Calls.{shape_parts_into, class_parts_into}
 use Rattle.words.specs.Calls.Laws.{one-period-told}
-use Rattle.words.proofs.Told.{word-told-once, number-told-once, count-told-once, good-told-once, shape-told-once}
+use Rattle.words.proofs.Told.{word-told-once, number-told-once, degree-told-once, count-told-once, good-told-once, shape-told-once}
 use Rattle.words.proofs.shapes.word.Reads as shape-word
 use Rattle.words.proofs.shapes.read.Reads as shape-reading
 use Rattle.words.proofs.shapes.good.Reads as good-shape
@@ -38,7 +38,7 @@ shape-parts-once κs a r r' s s' p q =
 
 pub shape-degree-once : (κs : _) (a : _) (r r' : _) (s s' : _) → shape-degree.Post κs a r s
     → shape-degree.Post κs a r' s' → r ≡ r'
-shape-degree-once κs a r r' s s' p q = number-told-once (p ∙ sym q)
+shape-degree-once κs a r r' s s' p q = degree-told-once (p ∙ sym q)
 
 pub conjugate-once : (κs : _) (a : _) (r r' : _) (s s' : _) → conjugate.Post κs a r s → conjugate.Post κs a r' s'
     → r ≡ r'
@@ -56,7 +56,7 @@ class-parts-once κs a r r' s s' p q =
 
 pub class-degree-once : (κs : _) (a : _) (r r' : _) (s s' : _) → class-degree.Post κs a r s
     → class-degree.Post κs a r' s' → r ≡ r'
-class-degree-once κs a r r' s s' p q = number-told-once (p ∙ sym q)
+class-degree-once κs a r r' s s' p q = degree-told-once (p ∙ sym q)
 
 pub class-sign-once : (κs : _) (a : _) (r r' : _) (s s' : _) → class-sign.Post κs a r s → class-sign.Post κs a r' s'
     → r ≡ r'

@@ -102,6 +102,9 @@ word_told = told word_answer 0
 abbrev pub number_told : Result ℤ Refusal → NumberAnswer
 number_told = told number_answer (pos 0)
 
+abbrev pub degree_told : Result ℕ Refusal → NumberAnswer
+degree_told = told (λ k n. number_answer k (pos n)) 0
+
 abbrev pub count_told : Result ℕ Refusal → CountAnswer
 count_told = told count_answer 0
 

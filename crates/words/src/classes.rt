@@ -9,7 +9,7 @@ ghost use Rattle.theory.specs.Limits.{degree_limit};
 ghost use Rattle.theory.specs.Bounds.Laws.{largest_limit};
 ghost use Rattle.theory.specs.Refusals.{class_checks};
 ghost use Rattle.theory.specs.Refusals.Laws.{WithinClass};
-ghost use Rattle.words.specs.Answers.{Outcome, at_front, word_told, number_told, count_told};
+ghost use Rattle.words.specs.Answers.{Outcome, at_front, word_told, number_told, degree_told, count_told};
 ghost use Rattle.words.specs.Private.Reading.{Measured, ListWithin};
 ghost use Rattle.words.specs.Calls.{class_word_from, class_parts_into, class_degree};
 ghost use Rattle.words.specs.Calls.{sign_of_class, size_of_class, PeriodOfClass};
@@ -129,11 +129,11 @@ pub fn parts(word: u32, column: &mut [u8]) -> Result<usize, Refusal>
 }
 
 // The degree n of a class word. Refuses 3, then 4.
-pub fn degree(word: u32) -> Result<i64, Refusal>
-    ensures { number_told result ≡ class_degree degree_limit word }
+pub fn degree(word: u32) -> Result<u32, Refusal>
+    ensures { degree_told result ≡ class_degree degree_limit word }
 {
     let measure = read(word)?;
-    Ok(i64::from(measure.degree))
+    Ok(measure.degree)
 }
 
 // The sign of a class: a part p is p - 1 exchanges, so it is minus when the degree less the number of parts is odd.

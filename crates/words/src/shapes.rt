@@ -6,7 +6,7 @@ ghost use Rattle.theory.specs.ShapeWord.{shape_word, shape_of, conjugate_word, d
 ghost use Rattle.theory.specs.Limits.{degree_limit};
 ghost use Rattle.theory.specs.Bounds.Laws.{largest_limit};
 ghost use Rattle.theory.specs.Refusals.{shape_checks};
-ghost use Rattle.words.specs.Answers.{Outcome, at_front, word_told, number_told, count_told, good_told, shape_told};
+ghost use Rattle.words.specs.Answers.{Outcome, at_front, word_told, degree_told, count_told, good_told, shape_told};
 ghost use Rattle.words.specs.Private.Reading.{Measured, ListWithin};
 ghost use Rattle.words.specs.Calls.{shape_word_from, shape_reading, good_shape_word, shape_parts_into, shape_degree};
 ghost use Rattle.words.specs.Calls.{conjugate_shape};
@@ -152,11 +152,11 @@ pub fn parts(word: u32, column: &mut [u8]) -> Result<usize, Refusal>
 }
 
 // The degree n of a shape word. Refuses 1, then 2.
-pub fn degree(word: u32) -> Result<i64, Refusal>
-    ensures { number_told result ≡ shape_degree degree_limit word }
+pub fn degree(word: u32) -> Result<u32, Refusal>
+    ensures { degree_told result ≡ shape_degree degree_limit word }
 {
     let shape = read(word)?;
-    Ok(i64::from(shape.degree))
+    Ok(shape.degree)
 }
 
 // The digits up to the last one, in reverse order and complemented.

@@ -1,8 +1,6 @@
 -- `pairs::common_degree`: what the reading of the one word and the degree of the other answer is taken in the order of
 -- the checks.
-use Rattle.std.proofs.Common.{sym, ap, ◌∙◌}
-use mir.Syntax.{w64}
-use mir.Val.{of_z}
+use Rattle.std.proofs.Common.{sym, ◌∙◌}
 use Rattle.std.proofs.lemmas.Result.{err_from_is_err_and}
 use Rattle.words.specs.declared.refusal.Refusal.TheVariants.{BadShape, BadClass}
 use Rattle.words.proofs.Told.{is-refused, not-refused}
@@ -36,12 +34,12 @@ returns-in_err-degree c =
     (not-refused _ _ BadShape (sym c.eq.ensures ∙ c.if-eq.false))
     (not-refused _ _ BadClass (sym c.eq-2.ensures ∙ c.if-eq-2.false)) c.in_ok-shape.was c.in_err-degree.was)
 
-pub returns-then-from-degree : goal.returns-then-from-degree
-returns-then-from-degree c =
+pub returns-then-shape-degree : goal.returns-then-shape-degree
+returns-then-shape-degree c =
     refused-5 (record { of-shape = c.read-of_shape.ensures; of-class = c.degree-of_class.ensures }) c.in_ok-shape.was
-    c.in_ok-degree.was (λ e. c.if-from-degree.true (ap (of_z w64) c.from.ensures ∙ e))
+    c.in_ok-degree.was c.if-shape-degree.true
 
 pub returns : goal.returns
 returns c =
     agrees (record { of-shape = c.read-of_shape.ensures; of-class = c.degree-of_class.ensures }) c.in_ok-shape.was
-    c.in_ok-degree.was (sym (ap (of_z w64) c.from.ensures) ∙ c.if-from-degree.false)
+    c.in_ok-degree.was c.if-shape-degree.false

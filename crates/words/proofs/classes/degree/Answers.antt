@@ -1,10 +1,6 @@
 -- `words::classes::degree`: refused as the reader refuses, or the degree that it measured.
-use Rattle.std.proofs.Common.{ap, ◌∙◌}
+use Rattle.std.proofs.Common.{ap}
 use Rattle.std.proofs.lemmas.Result.{err_from_is_err_and}
-use mir.Facts.{to_z_pos}
-use mir.Syntax.{w64}
-use mir.Val.{to_z, of_z}
-use native.Mathlib.Omega.{arith}
 use Rattle.theory.specs.Basics.{pos}
 use Rattle.theory.specs.ClassWord.{class_of}
 use Rattle.theory.specs.Refusals.{class_checks}
@@ -25,5 +21,4 @@ unfolding class_degree
 returns c =
     let w = c.args.word in
     let m = measures (class_checks degree_limit w) (class_of w) c.in_ok-measure.ensures in
-    number-given (class_checks degree_limit w) _ _ m.none
-    (ap (λ z. to_z w64 (of_z w64 z)) c.from.ensures ∙ to_z_pos w64 (omega arith) ∙ ap pos m.degree)
+    number-given (class_checks degree_limit w) _ _ m.none (ap pos m.degree)

@@ -1,10 +1,6 @@
 -- `words::shapes::degree`: refused as the reader refuses, or the degree that it read.
-use Rattle.std.proofs.Common.{refl, ap, ◌∙◌}
+use Rattle.std.proofs.Common.{refl, ap}
 use Rattle.std.proofs.lemmas.Result.{err_from_is_err_and}
-use mir.Facts.{to_z_pos}
-use mir.Syntax.{w64}
-use mir.Val.{to_z, of_z}
-use native.Mathlib.Omega.{arith}
 use Rattle.theory.specs.Basics.{pos}
 use Rattle.theory.specs.Partition.{degree}
 use Rattle.theory.specs.ShapeWord.{shape_of}
@@ -29,5 +25,4 @@ unfolding shape_degree
 returns c =
     let w = c.args.word in
     let read = shape-read degree_limit w _ c.in_ok-shape.ensures refl in
-    number-given (shape_checks degree_limit w) (pos (degree (shape_of w))) _ read.none
-    (ap (λ z. to_z w64 (of_z w64 z)) c.from.ensures ∙ to_z_pos w64 (omega arith) ∙ ap pos read.degree)
+    number-given (shape_checks degree_limit w) (pos (degree (shape_of w))) _ read.none (ap pos read.degree)

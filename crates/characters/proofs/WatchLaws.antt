@@ -18,7 +18,7 @@ use Rattle.theory.specs.Refusals.{Check, first_of, shape_checks, no-8}
 use Rattle.theory.proofs.Refusals.Laws.{both-pass, first-refuses, first_passes, or-refused, or-given}
 use Rattle.theory.proofs.Refusals.Laws.{shape-passes}
 use Rattle.words.specs.Answers.{number_answer}
-use Rattle.words.specs.declared.NumberAnswer.{NumberAnswer}
+use Rattle.words.specs.Answers.{NumberAnswer}
 use Rattle.words.proofs.Factorials.{factorial-fits}
 use Rattle.pages.specs.Line.{Line, line_degree, signed_character}
 use Rattle.pages.specs.declared.Slip.{Slip}

@@ -6,7 +6,7 @@ use Rattle.theory.specs.ShapeWord.{shape_of}
 use Rattle.theory.specs.ClassWord.{class_of}
 use Rattle.theory.specs.Refusals.{shape_checks, pair_checks}
 use Rattle.words.specs.Answers.{numbered}
-use Rattle.words.specs.declared.NumberAnswer.{NumberAnswer}
+use Rattle.words.specs.Answers.{NumberAnswer}
 pub mod Laws
 
 module _ (limit : ℕ) where

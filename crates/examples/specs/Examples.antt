@@ -11,7 +11,7 @@ use Rattle.theory.specs.ShapeWord.{shape_word, shape_of}
 use Rattle.theory.specs.ClassWord.{class_word, class_of}
 use Rattle.theory.specs.Refusals.{first_of, shape_checks, class_checks}
 use Rattle.theory.specs.Limits.{degree_limit}
-use Rattle.words.specs.declared.CountAnswer.{CountAnswer}
+use Rattle.words.specs.Answers.{CountAnswer}
 use Rattle.words.specs.Answers.{count_answer, good_answer}
 use Rattle.words.specs.Calls.{good_shape_word}
 use Rattle.pages.specs.Page.{slip_of}

@@ -11,7 +11,7 @@ use Rattle.theory.specs.ClassWord.{class_of}
 use Rattle.theory.specs.Refusals.{Check, first_of, refused_or, no-8, no_9, no-18}
 use Rattle.theory.proofs.Refusals.Laws.{first-refuses, first_passes, or-refused}
 use Rattle.words.specs.Answers.{Outcome, count_answer, at_front}
-use Rattle.words.specs.declared.CountAnswer.{CountAnswer}
+use Rattle.words.specs.Answers.{CountAnswer}
 use Rattle.pages.specs.Line.{Line}
 use Rattle.pages.specs.declared.Slip.{Slip}
 use Rattle.pages.specs.Page.{word_of, line_at}

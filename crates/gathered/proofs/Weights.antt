@@ -14,7 +14,7 @@ use Rattle.theory.specs.Character.{◌on◌}
 use Rattle.theory.specs.Refusals.{first_of, pair_checks}
 use Rattle.theory.proofs.Refusals.Laws.{or-given, pair-passes}
 use Rattle.words.specs.Answers.{number_answer}
-use Rattle.words.specs.declared.NumberAnswer.{NumberAnswer}
+use Rattle.words.specs.Answers.{NumberAnswer}
 use Rattle.words.proofs.Factorials.{factorial-fits}
 use Rattle.pages.specs.Line.{Line, line_degree, signed_character}
 use Rattle.pages.specs.Page.{line_of}

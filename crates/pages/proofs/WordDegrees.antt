@@ -20,9 +20,9 @@ use Rattle.theory.specs.Refusals.{first_of, refused_or, shape_checks, class_chec
 use Rattle.theory.specs.Refusals.Laws.{Within, WithinClass}
 use Rattle.theory.proofs.Refusals.Laws.{made_of, within, shape-passes, within-class, class-passes}
 use Rattle.words.specs.Answers.{number_answer}
-use Rattle.words.specs.declared.NumberAnswer.{NumberAnswer}
-use Rattle.words.specs.declared.ShapeReading.{ShapeReading}
-use Rattle.words.specs.Calls.{shape_reading, class_degree}
+use Rattle.words.specs.Answers.{NumberAnswer}
+use Rattle.words.specs.Answers.{ShapeReading}
+use Rattle.words.specs.Calls.{shape_reading, shape_degree, class_degree}
 use Rattle.pages.specs.Private.Degrees.{word_degree, Known, Knows}
 use Rattle.pages.proofs.Signed.{carried, carried-is}
 
@@ -52,6 +52,12 @@ class-told : (limit c : ℕ)
     → nat_abs (class_degree limit c).number ≡ unless (first_of (class_checks limit c)) (degree (class_of c))
 unfolding class_degree
 class-told limit c = made_of (λ (x : NumberAnswer). nat_abs x.number) _ _ (first_of (class_checks limit c))
+
+pub shape-degree-told : (limit s : ℕ)
+    → nat_abs (shape_degree limit s).number ≡ (shape_reading limit s).degree
+unfolding shape_degree
+shape-degree-told limit s =
+    made_of (λ (x : NumberAnswer). nat_abs x.number) _ _ (first_of (shape_checks limit s)) ∙ sym (shape-told limit s)
 
 shape-small : (limit s : ℕ) → (shape_reading limit s).degree ≤ limit
 shape-small limit s = rw (shape-told limit s)

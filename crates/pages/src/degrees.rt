@@ -18,12 +18,12 @@ fn read(class: bool, word: u32) -> u32
     ensures { result ≡ word_degree degree_limit class word }
 {
     if class {
-        return words::classes::degree(word).number as u32;
+        return words::classes::degree(word).unwrap_or(0);
     }
     if SHAPE_WORDS <= word {
         return 0;
     }
-    words::shapes::read(word).degree
+    words::shapes::degree(word).unwrap_or(0)
 }
 
 // The same, read only where it is not known: what is found of a word is written to its place, where places are lent.

@@ -5,6 +5,7 @@ ghost use Rattle.theory.specs.Basics.{false, length, ◌≤?◌};
 ghost use Rattle.theory.specs.Bounds.{factorial};
 ghost use Rattle.theory.specs.Limits.{degree_limit, page_limit};
 ghost use Rattle.theory.specs.Refusals.{first_of};
+ghost use Rattle.words.specs.Answers.{refusal_of};
 ghost use Rattle.pages.specs.Mode.{alongside, gathered_mode};
 ghost use Rattle.pages.specs.Sound.{sound_in, page_checks_in};
 ghost use Rattle.pages.specs.Private.Degrees.{AllKnown};
@@ -14,6 +15,7 @@ ghost use Rattle.pages.specs.Private.Tables.{Tabled};
 use super::degrees::{MANY, PLACES};
 use super::paying::SPANS;
 use super::{Budget, GATHERED, PAGE_LIMIT, Slip, degrees, differences, paying, soundness};
+use words::Refusal;
 use words::classes::FACTORIALS;
 
 // 2^19: less than so often 16!, which is below 2^45, has room in 64 bits.
@@ -121,19 +123,19 @@ fn sound(slip: Slip, page: &[u64], coefficients: &[i64]) -> bool
     false
 }
 
-// Why a slip, a page and its coefficients are refused, 0 where they are not: 6, 21, then 7.
-pub fn refusal(slip: Slip, page: &[u64], coefficients: &[i64]) -> u8
-    ensures { result ≡ first_of (page_checks_in gathered_mode degree_limit slip
+// Why a slip, a page and its coefficients are refused: 6, 21, then 7.
+pub fn refusal(slip: Slip, page: &[u64], coefficients: &[i64]) -> Result<(), Refusal>
+    ensures { refusal_of result ≡ first_of (page_checks_in gathered_mode degree_limit slip
         (page.now, coefficients.now)) }
 {
     if PAGE_LIMIT < page.len() {
-        return 6;
+        return Err(Refusal::PageTooLong);
     }
     if page.len() != coefficients.len() {
-        return 21;
+        return Err(Refusal::BadCoefficients);
     }
-    if sound(slip, page, coefficients) {
-        return 0;
+    if !sound(slip, page, coefficients) {
+        return Err(Refusal::NotSound);
     }
-    7
+    Ok(())
 }

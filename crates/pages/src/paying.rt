@@ -62,10 +62,9 @@ pub fn first(slip: Slip, factorials: &[u64], spans: &[u64]) -> Budget
     if SHAPE_WORDS <= slip.shape {
         return overspent();
     }
-    let asked = pairs::common_degree(slip.shape, slip.class);
-    if asked.refused != 0 {
+    let Ok(asked) = pairs::common_degree(slip.shape, slip.class) else {
         return overspent();
-    }
+    };
     if slip.steps < 0 {
         return overspent();
     }

@@ -4,6 +4,7 @@ ghost use Rattle.theory.specs.Basics.{map};
 ghost use Rattle.theory.specs.Bounds.{factorial, S};
 ghost use Rattle.theory.specs.Limits.{degree_limit};
 ghost use Rattle.theory.specs.Refusals.{first_of};
+ghost use Rattle.words.specs.Answers.{refusal_of};
 ghost use Rattle.pages.specs.Page.{line_of};
 ghost use Rattle.pages.specs.Sound.{sound as is_sound, page_checks};
 ghost use Rattle.pages.specs.Budget.{budget_of, spent_all};
@@ -13,6 +14,7 @@ ghost use Rattle.pages.specs.Private.Tables.{Tabled};
 use super::degrees::{MANY, PLACES};
 use super::paying::SPANS;
 use super::{Budget, PAGE_LIMIT, PLAIN, Slip, degrees, paying};
+use words::Refusal;
 use words::classes::FACTORIALS;
 
 // What a line of this degree leaves of a budget: its d! is taken from the one and its S(d) from the other. The degree 0
@@ -125,15 +127,15 @@ fn sound(slip: Slip, page: &[u64]) -> bool
     false
 }
 
-// Why a slip and a page are refused, 0 where they are not: 6, then 7.
-pub fn refusal(slip: Slip, page: &[u64]) -> u8
-    ensures { result ≡ first_of (page_checks degree_limit slip page.now) }
+// Why a slip and a page are refused: 6, then 7.
+pub fn refusal(slip: Slip, page: &[u64]) -> Result<(), Refusal>
+    ensures { refusal_of result ≡ first_of (page_checks degree_limit slip page.now) }
 {
     if PAGE_LIMIT < page.len() {
-        return 6;
+        return Err(Refusal::PageTooLong);
     }
-    if sound(slip, page) {
-        return 0;
+    if !sound(slip, page) {
+        return Err(Refusal::NotSound);
     }
-    7
+    Ok(())
 }

@@ -19,7 +19,7 @@
 --   unwatched calls           the calls with these struck; commits are handed the same strips
 use Rattle.std.specs.Prelude.{◌≡◌, ◌∷◌, ◌+◌}
 use Rattle.theory.specs.Basics.{Bool, true, false, not, cond, List, [], map, get_or, take, ℕ, ◌=?◌, keep, same}
-use Rattle.words.specs.declared.CountAnswer.{CountAnswer}
+use Rattle.words.specs.Answers.{CountAnswer}
 use Rattle.words.specs.Answers.{Outcome}
 use Rattle.text.specs.Text.{Text}
 use Rattle.pages.specs.declared.Slip.{Slip}

@@ -20,7 +20,7 @@ use Rattle.theory.proofs.Bounds.Laws.{S-rises}
 use Rattle.theory.specs.Refusals.{Check, first_of, no-10, no-18, no-19}
 use Rattle.theory.proofs.Refusals.Laws.{none-applies, first-refuses, first_passes, or-refused, answer-number}
 use Rattle.theory.proofs.Refusals.Laws.{answer-given}
-use Rattle.words.specs.declared.CountAnswer.{CountAnswer}
+use Rattle.words.specs.Answers.{CountAnswer}
 use Rattle.words.specs.Answers.{Outcome, count_answer, at_front}
 use Rattle.words.proofs.Factorials.{factorial-fits}
 use Rattle.pages.specs.Line.{Line}

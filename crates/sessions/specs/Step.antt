@@ -15,7 +15,7 @@ use Rattle.theory.specs.Basics.{Bool, not, List, [], map, length, take, drop, â„
 use Rattle.theory.specs.Basics.{sum}
 use Rattle.theory.specs.ClassWord.{class_of}
 use Rattle.theory.specs.Refusals.{Check, first_of, refused_or, no-8, no_9, no-10, no-18, no-19}
-use Rattle.words.specs.declared.CountAnswer.{CountAnswer}
+use Rattle.words.specs.Answers.{CountAnswer}
 use Rattle.words.specs.Answers.{written}
 use Rattle.pages.specs.Line.{Line, hook_lines}
 use Rattle.pages.specs.declared.Slip.{Slip}

@@ -13,7 +13,7 @@ use Rattle.theory.proofs.Partition.Laws.{length-degree}
 use Rattle.theory.specs.Limits.{degree_limit}
 use Rattle.theory.specs.Refusals.{first_of}
 use Rattle.theory.proofs.Refusals.Laws.{none-applies}
-use Rattle.words.specs.declared.WordAnswer.{WordAnswer}
+use Rattle.words.specs.Answers.{WordAnswer}
 use Rattle.words.specs.Answers.{worded}
 use Rattle.words.specs.Private.Reading.{list_checks}
 use Rattle.words.proofs.Callers.{word-given-by}

@@ -8,7 +8,7 @@ use Rattle.theory.specs.Basics.{List, [], length, ℕ}
 use Rattle.theory.specs.Limits.{degree_limit}
 use Rattle.theory.specs.Refusals.{Check, first_of, no-17}
 use Rattle.theory.proofs.Refusals.Laws.{first-refuses, first_passes, or-refused}
-use Rattle.words.specs.declared.CountAnswer.{CountAnswer}
+use Rattle.words.specs.Answers.{CountAnswer}
 use Rattle.words.specs.Answers.{Outcome, count_answer}
 use Rattle.text.specs.Text.{Text}
 use Rattle.text.specs.Wrote.{most, Wrote}

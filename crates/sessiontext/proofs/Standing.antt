@@ -18,7 +18,7 @@ use Rattle.theory.specs.Digits.{width}
 use Rattle.theory.specs.ShapeWord.{shape_word}
 use Rattle.theory.specs.ClassWord.{class_word}
 use Rattle.theory.specs.Limits.{degree_limit}
-use Rattle.words.specs.declared.WordAnswer.{WordAnswer}
+use Rattle.words.specs.Answers.{WordAnswer}
 use Rattle.words.specs.Answers.{worded}
 use Rattle.words.specs.Private.Reading.{list_checks}
 use Rattle.text.specs.Text.{Text, ascii, decimal, commas, list_text}

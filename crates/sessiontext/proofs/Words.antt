@@ -19,8 +19,8 @@ use Rattle.theory.specs.Limits.{degree_limit}
 use Rattle.theory.specs.Refusals.{shape_checks, class_checks}
 use Rattle.theory.specs.Refusals.Laws.{Within, WithinClass}
 use Rattle.theory.proofs.Refusals.Laws.{shape-passes, class-passes}
-use Rattle.words.specs.declared.NumberAnswer.{NumberAnswer}
-use Rattle.words.specs.declared.CountAnswer.{CountAnswer}
+use Rattle.words.specs.Answers.{NumberAnswer}
+use Rattle.words.specs.Answers.{CountAnswer}
 use Rattle.words.specs.Answers.{Outcome}
 use Rattle.words.specs.Calls.{shape_parts_into, class_parts_into, shape_degree}
 use Rattle.sessiontext.specs.SessionText.{held}

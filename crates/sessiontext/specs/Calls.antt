@@ -7,7 +7,7 @@
 use Rattle.std.specs.Prelude.{◌∷◌, ◌++◌}
 use Rattle.theory.specs.Basics.{cond, List, [], ℕ, ◌=?◌}
 use Rattle.theory.specs.Refusals.{Check, first_of, refused_or, no-7, no-10, no-16, no-17}
-use Rattle.words.specs.declared.CountAnswer.{CountAnswer}
+use Rattle.words.specs.Answers.{CountAnswer}
 use Rattle.words.specs.Answers.{written}
 use Rattle.text.specs.Text.{Text}
 use Rattle.pages.specs.declared.Slip.{Slip}

@@ -27,9 +27,9 @@ use Rattle.theory.proofs.Listing.Order.{partition-at}
 use Rattle.theory.proofs.Column.Laws.{column-length}
 use Rattle.theory.specs.Refusals.{first_of, class_checks}
 use Rattle.words.specs.Answers.{Outcome}
-use Rattle.words.specs.declared.CountAnswer.{CountAnswer}
-use Rattle.words.specs.declared.NumberAnswer.{NumberAnswer}
-use Rattle.words.specs.declared.WordAnswer.{WordAnswer}
+use Rattle.words.specs.Answers.{CountAnswer}
+use Rattle.words.specs.Answers.{NumberAnswer}
+use Rattle.words.specs.Answers.{WordAnswer}
 use Rattle.words.specs.Calls.{class_parts_into, size_of_class}
 use Rattle.words.proofs.Factorials.{factorial-fits}
 use Rattle.words.proofs.Callers.{FrontGiven, front-given}

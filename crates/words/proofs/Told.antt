@@ -2,9 +2,10 @@
 -- are told alike.
 use mathlib.Core.Path.{◌≡◌, refl, sym, ◌∙◌, ap}
 use native.Mathlib.Omega.{arith}
+use Rattle.std.specs.Prelude.{⊤}
 use borrow.Author.Tests.{clash}
 use denote.Enum.Bare.{same_true, same_false}
-use Rattle.std.specs.Result.{result_eq}
+use Rattle.std.specs.Result.{result_eq, result_unwrap_or}
 use Rattle.words.specs.contracts.refusal.RefusalPartialEq.TheImpl.{eq-value}
 use Rattle.words.specs.contracts.refusal.Refusal.{the_type}
 use Rattle.theory.specs.Basics.{Bool, true, false, ℕ, ℤ, pos, nat_abs, cond, ◌=?◌}
@@ -135,6 +136,18 @@ count-told-number (Err e) = refl
 pub shape-told-number : (r : Result Shape Refusal) → (shape_told r).refused ≡ refusal_of r
 shape-told-number (Ok x) = refl
 shape-told-number (Err e) = refl
+
+-- a judge gives nothing beside its refusal
+pub judged-once : {r s : Result ⊤ Refusal} → refusal_of r ≡ refusal_of s → r ≡ s
+judged-once {r = Ok x} {s = Ok y} e = refl
+judged-once {r = Ok x} {s = Err d} e = absurd (refuses d (sym e))
+judged-once {r = Err d} {s = Ok y} e = absurd (refuses d e)
+judged-once {r = Err c} {s = Err d} e = ap Err (number-once e)
+
+-- a degree, 0 where it is refused
+pub degree-or_0 : (r : Result ℕ Refusal) → nat_abs (degree_told r).number ≡ result_unwrap_or r 0
+degree-or_0 (Ok x) = refl
+degree-or_0 (Err e) = refl
 
 -- a result that is told as one whose number is 0 was given
 pub given-where : {A : Type 0} (r : Result A Refusal) → refusal_of r ≡ 0 → (x : A) × (r ≡ Ok x)

@@ -10,7 +10,7 @@ use mir.Val.{to_z, of_z}
 use mir.Facts.{to_z-of_z}
 use borrow.Author.Rules.{sfits_of}
 use Rattle.words.specs.Answers.{Outcome}
-use Rattle.words.specs.declared.NumberAnswer.{NumberAnswer}
+use Rattle.words.specs.Answers.{NumberAnswer}
 
 pub number_of : {a b : NumberAnswer} → mag a.number < 2 ^ 63 → a ≡ b → to_z w64 (of_z w64 a.number) ≡ b.number
 number_of h e = to_z-of_z {w = w64} (sfits_of h) ∙ ap (λ (x : NumberAnswer). x.number) e

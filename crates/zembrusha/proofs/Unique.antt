@@ -3,7 +3,7 @@ use mathlib.Core.Path.{◌≡◌, sym, ◌∙◌, ap}
 use Rattle.theory.specs.Basics.{List, ℕ, ℤ}
 use Rattle.theory.specs.Limits.{degree_limit}
 use Rattle.words.specs.Answers.Laws.{one-outcome}
-use Rattle.words.specs.declared.NumberAnswer.{NumberAnswer}
+use Rattle.words.specs.Answers.{NumberAnswer}
 use Rattle.words.specs.Calls.{shape_parts_into, class_parts_into}
 use Rattle.words.specs.Calls.Laws.{one-period-told}
 use Rattle.oldlists.specs.Calls.{shapes_from_old, shapes_to_old}

@@ -13,10 +13,10 @@ use Rattle.std.specs.Prelude.{◌≡◌, Float}
 use Rattle.std.specs.Float.{binary64}
 use Rattle.std.specs.Float.Ieee.{of_bits}
 use Rattle.theory.specs.Basics.{List, ℕ, ℤ, pos}
-use Rattle.words.specs.declared.CountAnswer.{CountAnswer}
-use Rattle.words.specs.declared.GoodAnswer.{GoodAnswer}
-use Rattle.words.specs.declared.NumberAnswer.{NumberAnswer}
-use Rattle.words.specs.declared.WordAnswer.{WordAnswer}
+use Rattle.words.specs.Answers.{CountAnswer}
+use Rattle.words.specs.Answers.{GoodAnswer}
+use Rattle.words.specs.Answers.{NumberAnswer}
+use Rattle.words.specs.Answers.{WordAnswer}
 use Rattle.oldlists.specs.declared.ListAnswer.{ListAnswer}
 use Rattle.pages.specs.declared.Slip as calculator
 use Rattle.sessions.specs.declared.Handed as calculator-handed

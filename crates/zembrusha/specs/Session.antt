@@ -14,7 +14,7 @@
 use Rattle.std.specs.Prelude.{◌≡◌, Float, ◌∷◌}
 use Rattle.theory.specs.Basics.{List, [], ℕ, ℤ}
 use Rattle.theory.specs.Limits.{degree_limit}
-use Rattle.words.specs.declared.CountAnswer.{CountAnswer}
+use Rattle.words.specs.Answers.{CountAnswer}
 use Rattle.words.specs.Answers.{Outcome}
 use Rattle.text.specs.Text.{Text}
 use Rattle.pages.specs.declared.Slip as calculator-slip

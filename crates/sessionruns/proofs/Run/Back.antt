@@ -9,7 +9,7 @@ use Rattle.theory.specs.Basics.{List, get_or, take, ℕ, pos, nat_abs}
 use Rattle.theory.proofs.Basics.Laws.{same_self}
 use Rattle.theory.specs.Limits.{degree_limit}
 use Rattle.theory.specs.Refusals.{first_of}
-use Rattle.words.specs.declared.CountAnswer.{CountAnswer}
+use Rattle.words.specs.Answers.{CountAnswer}
 use Rattle.words.specs.Answers.{Outcome}
 use Rattle.text.specs.Text.{Text}
 use Rattle.pages.specs.declared.Slip.{Slip}

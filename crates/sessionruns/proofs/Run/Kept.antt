@@ -7,7 +7,7 @@ use Rattle.theory.specs.Basics.{Each}
 use Rattle.theory.proofs.Basics.Laws.{same_lists}
 use Rattle.theory.specs.Limits.{degree_limit}
 use Rattle.theory.specs.Refusals.{first_of}
-use Rattle.words.specs.declared.CountAnswer.{CountAnswer}
+use Rattle.words.specs.Answers.{CountAnswer}
 use Rattle.words.specs.Answers.{Outcome}
 use Rattle.text.specs.Text.{Text}
 use Rattle.pages.specs.declared.Slip.{Slip}

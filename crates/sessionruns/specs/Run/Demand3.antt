@@ -11,7 +11,7 @@ use Rattle.theory.specs.ClassWord.{class_of}
 use Rattle.theory.specs.Character.{◌on◌}
 use Rattle.theory.specs.Bounds.{S}
 use Rattle.theory.specs.Refusals.{first_of}
-use Rattle.words.specs.declared.CountAnswer.{CountAnswer}
+use Rattle.words.specs.Answers.{CountAnswer}
 use Rattle.words.specs.Answers.{Outcome}
 use Rattle.text.specs.Text.{Text}
 use Rattle.pages.specs.Sound.{sound_in}

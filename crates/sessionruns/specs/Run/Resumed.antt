@@ -7,7 +7,7 @@ use Rattle.theory.specs.Limits.{degree_limit}
 use Rattle.theory.specs.ShapeWord.{shape_of}
 use Rattle.theory.specs.ClassWord.{class_of}
 use Rattle.theory.specs.Character.{◌on◌}
-use Rattle.words.specs.declared.CountAnswer.{CountAnswer}
+use Rattle.words.specs.Answers.{CountAnswer}
 use Rattle.words.specs.Answers.{Outcome}
 use Rattle.text.specs.Text.{Text}
 use Rattle.pages.specs.Page.{worth}

@@ -16,7 +16,7 @@ use Rattle.theory.specs.ShapeWord.{shape_of}
 use Rattle.theory.specs.Refusals.{Check, first_of, no-10, no-18, no-19}
 use Rattle.theory.specs.Refusals.Laws.{Numbered}
 use Rattle.theory.proofs.Refusals.Laws.{first-refuses, first_passes, both-pass, none-applies, answer-number}
-use Rattle.words.specs.declared.CountAnswer.{CountAnswer}
+use Rattle.words.specs.Answers.{CountAnswer}
 use Rattle.words.specs.Answers.{count_answer}
 use Rattle.pages.specs.Line.{Line, line_degree, hook_lines}
 use Rattle.pages.specs.Line.Hooks.{hook-lines-few}

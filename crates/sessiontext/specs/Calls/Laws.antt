@@ -22,7 +22,7 @@ use Rattle.theory.specs.Digits.{width}
 use Rattle.theory.specs.Limits.{degree_limit, page_limit}
 use Rattle.theory.specs.Refusals.{Check, first_of, refused_or, no-7, no-10, no-16, no-17}
 use Rattle.theory.proofs.Refusals.Laws.{none-applies, both-pass, first_passes, answer-given}
-use Rattle.words.specs.declared.CountAnswer.{CountAnswer}
+use Rattle.words.specs.Answers.{CountAnswer}
 use Rattle.words.specs.Answers.{count_answer, at_front}
 use Rattle.text.specs.Text.{Text}
 use Rattle.pages.specs.Line.{Line}

@@ -1,7 +1,7 @@
 -- `zembrusha::singles::zembrusha_conjugate` meets its contract: it hands on what the call answers.
 use mathlib.Core.Path.{ap}
 use borrow.Author.Rules.{rules}
-use Rattle.words.specs.declared.WordAnswer.{WordAnswer}
+use Rattle.words.specs.Answers.{WordAnswer}
 use Rattle.zembrusha.proofs.singles.zembrusha_conjugate.Statement.{statement}
 use Rattle.zembrusha.proofs.singles.zembrusha_conjugate.Tie as tie
 

@@ -1,7 +1,7 @@
 -- `zembrusha::singles::zembrusha_degree_refusal` meets its contract: it hands on what the call answers.
 use mathlib.Core.Path.{ap}
 use borrow.Author.Rules.{rules}
-use Rattle.words.specs.declared.NumberAnswer.{NumberAnswer}
+use Rattle.words.specs.Answers.{NumberAnswer}
 use Rattle.zembrusha.proofs.singles.zembrusha_degree_refusal.Statement.{statement}
 use Rattle.zembrusha.proofs.singles.zembrusha_degree_refusal.Tie as tie
 

@@ -10,6 +10,7 @@ ghost use Rattle.words.specs.Private.Reading.{count_within};
 
 pub mod classes;
 mod lists;
+pub mod parts;
 pub mod shapes;
 
 #[derive(Clone, Copy)]

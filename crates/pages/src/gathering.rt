@@ -113,8 +113,8 @@ fn sound(slip: Slip, page: &[u64], coefficients: &[i64]) -> bool
     let before = soundness::budget(slip);
     if afforded(before, &page[..lines], &coefficients[..lines]) {
         if differences::different(&page[..lines]) {
-            if clearing::idle::words(&page[lines..]) {
-                return clearing::idle::coefficients(&coefficients[lines..]);
+            if clearing::is_clear(&page[lines..]) {
+                return clearing::is_clear(&coefficients[lines..]);
             }
         }
     }

@@ -120,7 +120,7 @@ fn sound(slip: Slip, page: &[u64]) -> bool
     let before = paying::first(slip, &factorials, &spans);
     let after = spent(before, &page[..lines], &factorials, &spans);
     if after.enough {
-        return clearing::idle::words(&page[lines..]);
+        return clearing::is_clear(&page[lines..]);
     }
     false
 }

@@ -26,7 +26,7 @@ begin c = c.before.before.before.before
 abbrev paid : tie.After-different → tie.Then-afforded
 paid c = c.before
 
-abbrev apart : tie.After-words → tie.Then-different
+abbrev apart : tie.After-is_clear → tie.Then-different
 apart c = c.before.before
 
 abbrev fitting-then : tie.Then-different → tie.Else-page-lines
@@ -59,12 +59,12 @@ are-apart : (c : tie.Then-different)
     all_different (take a.slip.lines a.page.now) ≡ true
 are-apart c = sym c.different.ensures ∙ c.if-different.true
 
-is-idle : (c : tie.After-words)
+is-idle : (c : tie.After-is_clear)
     → let a = (begin (fitting-then (apart c))).args in
-    c.words.result ≡ every (◌=? 0) (drop a.slip.lines a.page.now)
+    c.is_clear.result ≡ every (◌=? 0) (drop a.slip.lines a.page.now)
 is-idle c =
     let a = (begin (fitting-then (apart c))).args in
-    c.words.ensures ∙ ap (every (◌=? 0)) (all_from a.page.now a.slip.lines)
+    c.is_clear.ensures ∙ ap (every (◌=? 0)) (all_from a.page.now a.slip.lines)
 
 returns : tie.Need-returns-then-slip-ne-GATHERED
 returns c = other-mode gathered_mode _ _ _ c.if-slip-ne-GATHERED.true
@@ -100,50 +100,50 @@ different-requires c κs =
 mul_words : tie.Need-offset_bounds-page-lines
 mul_words c = search rules
 
-sub_words : tie.Need-slice_bounds-words-count
+sub_words : tie.Need-slice_bounds-is_clear-count
 sub_words c = search rules
 
-part-words-start : tie.Need-slice_bounds-words-start
+part-words-start : tie.Need-slice_bounds-is_clear-start
 part-words-start c = search rules
 
-part-words-end : tie.Need-slice_bounds-words-end
+part-words-end : tie.Need-slice_bounds-is_clear-end
 part-words-end c = search rules
 
-words-requires : tie.Need-words-requires
+words-requires : tie.Need-is_clear-requires
 words-requires c κs = search rules
 
 mul-coefficients : tie.Need-offset_bounds-coefficients-lines
 mul-coefficients c = search rules
 
-sub-coefficients : tie.Need-slice_bounds-coefficients-count
+sub-coefficients : tie.Need-slice_bounds-is_clear-count-then-is_clear
 sub-coefficients c = search rules
 
-part-coefficients-start : tie.Need-slice_bounds-coefficients-start
+part-coefficients-start : tie.Need-slice_bounds-is_clear-start-then-is_clear
 part-coefficients-start c = search rules
 
-part-coefficients-end : tie.Need-slice_bounds-coefficients-end
+part-coefficients-end : tie.Need-slice_bounds-is_clear-end-then-is_clear
 part-coefficients-end c = search rules
 
-coefficients-requires : tie.Need-coefficients-requires
+coefficients-requires : tie.Need-is_clear-requires-then-is_clear
 coefficients-requires c κs = search rules
 
-returns-3 : tie.Need-returns-then-words
+returns-3 : tie.Need-returns-then-is_clear
 returns-3 c =
     let then5 = c in
     let differs = apart then5.before.before.before in
     let f = fitting-then differs in
     let a = (begin f).args in
-    c.coefficients.ensures ∙ ap (every (λ z. nat_abs z =? 0)) (all_from a.coefficients.now a.slip.lines)
+    c.is_clear-then-is_clear.ensures ∙ ap (every (λ z. nat_abs z =? 0)) (all_from a.coefficients.now a.slip.lines)
     ∙ then-column _ a.slip _ _ (says f) f.if-page-lines.false (same f) (are-paid (paid differs.before))
     (are-apart differs)
-    (sym (is-idle then5.before.before.before) ∙ then5.if-words.true)
+    (sym (is-idle then5.before.before.before) ∙ then5.if-is_clear.true)
 
-returns-4 : tie.Need-returns-else-words
+returns-4 : tie.Need-returns-else-is_clear
 returns-4 c =
     let differs = apart c.before in
     let f = fitting-then differs in
     not-idle _ (begin f).args.slip _ _ (says f) f.if-page-lines.false (same f) (are-paid (paid differs.before))
-    (are-apart differs) (sym (is-idle c.before) ∙ c.if-words.false)
+    (are-apart differs) (sym (is-idle c.before) ∙ c.if-is_clear.false)
 
 returns-5 : tie.Need-returns-else-different
 returns-5 c =

@@ -63,24 +63,24 @@ spent-requires c κs = (factorials-table, spans-tabled)
 mul_words : tie.Need-offset_bounds-page-lines
 mul_words c = search rules
 
-sub_words : tie.Need-slice_bounds-words-count
+sub_words : tie.Need-slice_bounds-is_clear-count
 sub_words c = search rules
 
-part-words-start : tie.Need-slice_bounds-words-start
+part-words-start : tie.Need-slice_bounds-is_clear-start
 part-words-start c = search rules
 
-part-words-end : tie.Need-slice_bounds-words-end
+part-words-end : tie.Need-slice_bounds-is_clear-end
 part-words-end c = search rules
 
-words-requires : tie.Need-words-requires
-words-requires c κs = search rules
+is-clear-requires : tie.Need-is_clear-requires
+is-clear-requires c κs = search rules
 
 returns-3 : tie.Need-returns-then-after
 returns-3 c =
     let then3 = c in
     let f = fitting then3.before.before.before in
     let a = (begin f).args in
-    c.words.ensures ∙ ap (every (◌=? 0)) (all_from a.page.now a.slip.lines)
+    c.is_clear.ensures ∙ ap (every (◌=? 0)) (all_from a.page.now a.slip.lines)
     ∙ then-zeros _ a.slip _ (says f) f.if-page-lines.false _ (enough then3.before.before.before) then3.if-after.true
 
 returns-4 : tie.Need-returns
@@ -105,6 +105,6 @@ sound_spec =
     sub_words
     part-words-start
     part-words-end
-    words-requires
+    is-clear-requires
     returns-3
     returns-4)

@@ -106,8 +106,8 @@ fn sound(slip: Slip, page: &[u64], coefficients: &[i64]) -> bool
     let before = soundness::budget(slip);
     afforded(before, &page[..lines], &coefficients[..lines])
         && differences::different(&page[..lines])
-        && clearing::idle::words(&page[lines..])
-        && clearing::idle::coefficients(&coefficients[lines..])
+        && clearing::is_clear(&page[lines..])
+        && clearing::is_clear(&coefficients[lines..])
 }
 
 // Why a slip, a page and its coefficients are refused: 6, 21, then 7.

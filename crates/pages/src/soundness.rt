@@ -107,7 +107,7 @@ fn sound(slip: Slip, page: &[u64]) -> bool
     let before = paying::first(slip, &tables);
     let after = spent(before, &page[..lines], &tables);
     if after.enough {
-        return clearing::idle::words(&page[lines..]);
+        return clearing::is_clear(&page[lines..]);
     }
     false
 }

@@ -19,8 +19,8 @@ returns-then-slip-ne-GATHERED c = other-mode gathered_mode degree_limit _ _ c.if
 pub returns-then-page-lines : goal.returns-then-page-lines
 returns-then-page-lines c = lines_long gathered_mode degree_limit _ _ c.if-page-lines.true
 
-pub returns-then-words : goal.returns-then-words
-returns-then-words c =
+pub returns-then-is_clear : goal.returns-then-is_clear
+returns-then-is_clear c =
     let n = c.args.slip.lines in
     let paid : Bool = are_afforded degree_limit c.args.slip c.args.page.now c.args.coefficients.now in
     let apart : Bool = are_different degree_limit c.args.slip c.args.page.now c.args.coefficients.now in
@@ -37,16 +37,16 @@ returns-then-words c =
     let tested : c.if-different.value ≡ paid && apart && idle =
     elim c.if-different.branch [
       | then-different w ↦
-          w.value-is ∙ w.words.ensures ∙ ap (every (◌=? 0)) (all_from c.args.page.now n)
+          w.value-is ∙ w.is_clear.ensures ∙ ap (every (◌=? 0)) (all_from c.args.page.now n)
           ∙ sym (ap (λ (b : Bool). b && idle) (sym both ∙ w.if-different.true))
       | else-different w ↦ w.value-is ∙ w.if-different.false ∙ sym (ap (λ (b : Bool). b && idle) (sym both ∙ w.if-different.false))
     ] in
-    c.coefficients.ensures ∙ ap (every (λ z. nat_abs z =? 0)) (all_from c.args.coefficients.now n)
+    c.is_clear-then-is_clear.ensures ∙ ap (every (λ z. nat_abs z =? 0)) (all_from c.args.coefficients.now n)
     ∙ then-column degree_limit c.args.slip c.args.page.now c.args.coefficients.now c.if-slip-ne-GATHERED.false c.if-page-lines.false c.requires.1
-    (sym tested ∙ c.if-words.true)
+    (sym tested ∙ c.if-is_clear.true)
 
-pub returns-else-words : goal.returns-else-words
-returns-else-words c =
+pub returns-else-is_clear : goal.returns-else-is_clear
+returns-else-is_clear c =
     let n = c.args.slip.lines in
     let paid : Bool = are_afforded degree_limit c.args.slip c.args.page.now c.args.coefficients.now in
     let apart : Bool = are_different degree_limit c.args.slip c.args.page.now c.args.coefficients.now in
@@ -63,10 +63,10 @@ returns-else-words c =
     let tested : c.if-different.value ≡ paid && apart && idle =
     elim c.if-different.branch [
       | then-different w ↦
-          w.value-is ∙ w.words.ensures ∙ ap (every (◌=? 0)) (all_from c.args.page.now n)
+          w.value-is ∙ w.is_clear.ensures ∙ ap (every (◌=? 0)) (all_from c.args.page.now n)
           ∙ sym (ap (λ (b : Bool). b && idle) (sym both ∙ w.if-different.true))
       | else-different w ↦ w.value-is ∙ w.if-different.false ∙ sym (ap (λ (b : Bool). b && idle) (sym both ∙ w.if-different.false))
     ] in
-    c.if-words.false
+    c.if-is_clear.false
     ∙ some-test-fails degree_limit c.args.slip c.args.page.now c.args.coefficients.now c.if-slip-ne-GATHERED.false c.if-page-lines.false c.requires.1
-    (sym tested ∙ c.if-words.false)
+    (sym tested ∙ c.if-is_clear.false)

@@ -23,7 +23,7 @@ returns-then-page-lines c = lines_long plain_mode degree_limit _ _ c.if-page-lin
 
 pub returns-then-after : goal.returns-then-after
 returns-then-after c =
-    c.words.ensures ∙ ap (every (◌=? 0)) (all_from c.args.page.now c.args.slip.lines)
+    c.is_clear.ensures ∙ ap (every (◌=? 0)) (all_from c.args.page.now c.args.slip.lines)
     ∙ then-zeros _ c.args.slip _ c.if-slip-ne-PLAIN.false c.if-page-lines.false _
     (enough _ _ _ _ c.first-before.ensures c.spent-after.ensures) c.if-after.true
 

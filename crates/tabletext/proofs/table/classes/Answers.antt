@@ -9,5 +9,6 @@ use Rattle.tabletext.proofs.table.classes.Goals as goal
 
 pub loop-rank-preserved : goal.loop-rank-preserved
 loop-rank-preserved c =
-    rw (add-one c.loop-rank.rank, joined-next class_lines (listing c.args.degree) [] c.loop-rank.rank (omega (arith, c.requires.count_value)))
+    let inside = c.requires.count_value in
+    rw (add-one c.loop-rank.rank, joined-next class_lines (listing c.args.degree) [] c.loop-rank.rank (omega arith))
     (wrote_then c.loop-rank.invariant (omega arith) c.class-end.ensures)

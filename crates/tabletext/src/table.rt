@@ -56,10 +56,8 @@ fn classes(degree: u32, count: u32, out: &mut [u8], at: usize) -> usize
     ensures { Wrote (joined class_lines (listing degree)) at out.old result out.new }
 {
     let mut end = at;
-    let mut rank = 0;
-    while rank < count {
+    for rank in 0..count {
         end = class(degree, rank, out, end);
-        rank += 1;
     }
     end
 }

@@ -21,9 +21,9 @@ fn lines(class: &[u8], size: u64, column: &[i64], out: &mut [u8], at: usize) -> 
     ensures { Wrote (class_text class.now size column.now)
         at out.old result out.new }
 {
-    let end = fields::list(b"class=", class, out, at);
-    let end = fields::number(b"size=", size, out, end);
-    fields::values(b"values=", column, out, end)
+    let end = fields::line(b"class=", class, out, at);
+    let end = fields::line(b"size=", size, out, end);
+    fields::line(b"values=", column, out, end)
 }
 
 // The lines of the class of a rank.
@@ -67,8 +67,8 @@ pub fn table(degree: u32, out: &mut [u8], at: usize) -> usize
     ensures { Wrote (tableText degree (listing degree)) at out.old result out.new }
 {
     let count = count(degree);
-    let end = fields::number(b"degree=", degree as u64, out, at);
-    let end = fields::number(b"count=", count as u64, out, end);
+    let end = fields::line(b"degree=", degree as u64, out, at);
+    let end = fields::line(b"count=", count as u64, out, end);
     let end = classes(degree, count, out, end);
-    fields::number(b"end=", count as u64, out, end)
+    fields::line(b"end=", count as u64, out, end)
 }

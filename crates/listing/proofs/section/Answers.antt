@@ -1,10 +1,6 @@
--- listing::section meets its contract: a degree starts after the sum of the counts before it, and the constants are
--- document 01's.
-use Rattle.std.specs.Prelude.{◌∷◌}
-use mathlib.Core.Path.{◌≡◌, refl, sym, ◌∙◌, ap₂}
-use Prim.Native.Nat.{◌≤◌}
+-- `listing::section`: a degree starts after the sum of the counts before it, and the constants are document 01's.
+use Rattle.std.proofs.Common.{◌≡◌, refl, sym, ◌∙◌, ap₂, ◌≤◌, ◌∷◌}
 use native.Mathlib.Omega.{arith}
-use borrow.Author.Rules.{rules}
 use borrow.Author.Tests.{lt-ltb, le-ltb}
 use Rattle.theory.specs.Basics.{List, [], ℕ, get_or, take, total}
 use Rattle.theory.proofs.Basics.AtPlace.{tabled-at}
@@ -13,8 +9,7 @@ use Rattle.theory.proofs.Listing.Laws.{count_kept}
 use Rattle.theory.proofs.Listing.Words.{start-summed}
 use Rattle.theory.specs.Limits.{degree_limit}
 use Rattle.listing.specs.Calls.{section_answer, section_of}
-use Rattle.listing.proofs.section.Statement.{statement}
-use Rattle.listing.proofs.section.Tie as tie
+use Rattle.listing.proofs.section.Goals as goal
 
 abbrev starts : List ℕ
 starts = 0 ∷ 1 ∷ 2 ∷ 4 ∷ 7 ∷ 12 ∷ 19 ∷ 30 ∷ 45 ∷ 67 ∷ 97 ∷ 139 ∷ 195 ∷ 272 ∷ 373 ∷ 508 ∷ 684 ∷ []
@@ -24,28 +19,13 @@ unfolding partition_counts
 start-kept n h =
     tabled-at (λ n. total (take n partition_counts)) starts n refl (omega arith) ∙ sym (start-summed n (omega arith))
 
-returns : tie.Need-returns-then-degree-gt-LIMIT
+pub returns-then-degree-gt-LIMIT : goal.returns-then-degree-gt-LIMIT
 unfolding section_of
-returns c = rw (lt-ltb degree_limit c.args.degree (omega arith))
+returns-then-degree-gt-LIMIT c = rw (lt-ltb degree_limit c.args.degree (omega arith))
 
-mul-t5 : tie.Need-offset_bounds-n
-mul-t5 c = search rules
-
-array-read-t8 : tie.Need-bounds-n
-array-read-t8 c = search rules
-
-mul-t10 : tie.Need-offset_bounds-n-2
-mul-t10 c = search rules
-
-array-read-t13 : tie.Need-bounds-n-2
-array-read-t13 c = search rules
-
-returns-2 : tie.Need-returns
+pub returns : goal.returns
 unfolding section_of partition_counts
-returns-2 c =
+returns c =
     let n = c.args.degree in
     rw (le-ltb degree_limit n (omega arith))
     (ap₂ (section_answer 0) (start-kept n (omega arith)) (sym (count_kept n (omega arith))))
-
-pub section_spec : {M : Type 1} → statement M
-section_spec = tie.close (tie.spec returns mul-t5 array-read-t8 mul-t10 array-read-t13 returns-2)

@@ -1,12 +1,13 @@
 -- The hook walk and the value: a shape word and a class that can be evaluated, struck by one cycle.
 --   FirstCycle s w z   the value of the shape word s on the class word w strikes the cycle z first
+--   Asked hook         what a hook leaves can be evaluated on the class without its longest cycle
 use Rattle.std.specs.Prelude.{◌∷◌, ◌^◌}
-use mathlib.Core.Path.{◌≡◌, refl, sym, ap}
+use mathlib.Core.Path.{◌≡◌, refl, sym, ◌∙◌, ap}
 use Prim.Native.Nat.{◌≤◌, ◌<◌}
 use native.Mathlib.Nat.{lt_of_le_of_lt}
 use native.Mathlib.Omega.{arith}
 use lib.Count.{count_leading_zeros}
-use Rattle.theory.specs.Basics.{[], ℕ, pos, nat_abs}
+use Rattle.theory.specs.Basics.{List, [], ℕ, ℤ, pos, nat_abs}
 use Rattle.theory.specs.Partition.{Parts, degree}
 use Rattle.theory.specs.Partition.Laws.{NoZero, some}
 use Rattle.theory.specs.Digits.{digits, width}
@@ -16,7 +17,7 @@ use Rattle.theory.proofs.ShapeWord.Laws.{rows-partition}
 use Rattle.theory.specs.ClassWord.{class_of}
 use Rattle.theory.specs.Character.{◌on◌}
 use Rattle.theory.proofs.Character.Order.{empty-on-empty}
-use Rattle.theory.specs.Hooks.{Hook}
+use Rattle.theory.specs.Hooks.{Hook, hook_words}
 use Rattle.theory.specs.Hooks.Words.{Left}
 use Rattle.theory.proofs.Hooks.Words.{hook-rule-first}
 use Rattle.theory.specs.Bounds.{factorial}
@@ -26,8 +27,8 @@ use Rattle.theory.specs.Refusals.Laws.{Within}
 use Rattle.words.proofs.Factorials.{factorial-fits}
 use Rattle.pages.proofs.Signed.{carried, carried-is}
 use Rattle.characters.specs.Private.Evaluation.{Evaluable, hook_sum}
-use Rattle.characters.specs.Private.SmallTables.{table_limit}
-use Rattle.characters.proofs.HookSums.{Walk}
+use Rattle.characters.specs.Private.SmallTables.{table_limit, RowOf, cycles_left}
+use Rattle.characters.proofs.HookSums.{Walk, Walked, NextHook, walk_start, walk-next, walk_end}
 use Rattle.characters.proofs.SmallWords.{others, Struck, struck-cycle}
 
 -- ---- what can be evaluated
@@ -102,3 +103,49 @@ first-cycle s w l e more =
       evaluable = rw struck.reads at e;
       same = ap (λ (cs : Parts). shape_of s on cs) struck.reads;
     }
+
+-- the walk over the hooks that are as long as the longest cycle
+module _ {s w : ℕ} (below : w < 2 ^ width) (e : Evaluable largest_limit s (class_of w))
+    (more : table_limit < degree (class_of w)) where
+  abbrev longest : ℕ
+  longest = count_leading_zeros 32 w
+
+  abbrev value-left : ℕ → ℤ
+  value-left t = shape_of t on class_of (others w longest)
+
+  first : FirstCycle s w longest
+  first = first-cycle s w below e more
+
+  pub first-bits : longest < 32
+  first-bits = first.struck.bits
+
+  pub hooks-start : (hooks : List (Hook ℕ)) → (0 < longest → s < 2 ^ width → hooks ≡ hook_words longest s)
+      → Walked value-left s longest hooks (pos 0)
+  hooks-start hooks all =
+      rw (all (cycle-long first.evaluable) (omega (arith, (shape-within e).good.below)))
+      (walk_start value-left s longest (walk first.evaluable))
+
+  pub hooks-next : {hooks left : List (Hook ℕ)} {hook : Hook ℕ} {so_far : ℤ} → hooks ≡ hook ∷ left
+      → Walked value-left s longest hooks so_far → NextHook value-left s longest so_far hook left
+  hooks-next {hooks} {left} {hook} {so_far} is w =
+      walk-next value-left s longest (walk first.evaluable) so_far hook left (rw is at w)
+
+  pub hooks-end : {hooks : List (Hook ℕ)} {so_far : ℤ} → hooks ≡ []
+      → Walked value-left s longest hooks so_far → so_far ≡ shape_of s on class_of w
+  hooks-end {hooks} {so_far} none w =
+      walk_end value-left s longest so_far (rw none at w) ∙ hook-rule-holds first.evaluable ∙ sym first.same
+
+  pub record Asked (hook : Hook ℕ) : Type 0 where
+    pub falls : degree (shape_of hook.leaves) < degree (shape_of s)
+    pub fits : others w longest < 2 ^ width
+    pub evaluable : Evaluable largest_limit hook.leaves (class_of (others w longest))
+
+  pub hook-asked : {hook : Hook ℕ} → Left longest s hook → Asked hook
+  hook-asked {hook} l = record {
+    falls = degree-falls first.evaluable hook l;
+    fits = first.struck.below;
+    evaluable = evaluable-left first.evaluable hook l;
+  }
+
+  pub row-kept : {row : List ℤ} → RowOf row (cycles_left (class_of w)) → RowOf row (cycles_left (class_of (others w longest)))
+  row-kept {row} of-row = rw first.struck.left at of-row

@@ -26,11 +26,9 @@ fn times_lengths(product: u64, shape: u32, length: u32) -> u64
     requires fits { product * length ^ length_of (hook_words length shape) < 2 ^ 64 }
     ensures { result ≡ product * length ^ length_of (hook_words length shape) }
 {
-    let mut left = hooks::marks(shape, length);
     let mut all = product;
-    while left != 0 {
+    for _ in hooks::of(shape, length) {
         all *= length as u64;
-        left -= 1u32 << (31 - u32::leading_zeros(left));
     }
     all
 }
@@ -42,9 +40,7 @@ pub fn quotient(shape: u32, degree: u32) -> i64
 {
     let mut factorial = 1u64;
     let mut lengths = 1u64;
-    let mut length = 0u32;
-    while length < degree {
-        length += 1;
+    for length in 1..degree + 1 {
         factorial *= length as u64;
         lengths = times_lengths(lengths, shape, length);
     }

@@ -27,10 +27,8 @@ pub fn sum(lines: &[u64]) -> i64
     ensures { result ≡ sum_of signed_character (map line_of lines.now) }
 {
     let mut sum = 0i64;
-    let mut i = 0;
-    while i < lines.len() {
-        sum = add_line(sum, lines[i]);
-        i += 1;
+    for line in lines {
+        sum = add_line(sum, *line);
     }
     sum
 }

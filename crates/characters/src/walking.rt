@@ -41,14 +41,10 @@ pub fn hook_walk(row: &[i64; ROW], shape: u32, class: u32) -> i64
 {
     let cycle = u32::leading_zeros(class);
     let rest = (class << cycle) % 0x8000_0000;
-    let mut left = hooks::marks(shape, cycle);
     let mut sum = 0i64;
-    while left != 0 {
-        let zero = 1u32 << (31 - u32::leading_zeros(left));
-        let stretch = hooks::stretch(zero, cycle);
-        left -= zero;
-        let number = value(row, hooks::leaves(shape, stretch), rest);
-        sum = evaluation::add_signed(sum, hooks::minus(shape, stretch), number);
+    for hook in hooks::of(shape, cycle) {
+        let number = value(row, hook.leaves, rest);
+        sum = evaluation::add_signed(sum, hook.minus, number);
     }
     sum
 }

@@ -1,5 +1,5 @@
 -- What a table has for the shapes of a degree, in listing order; of a kept table it is the column.
---   NextEntry p table words n from i   how entry i is read: its word stands at from + i, and degree n starts at `from`
+--   NextEntry p table n i word   the entry i of degree n is that of the word
 use Rattle.std.specs.Prelude.{◌∷◌, ◌+◌}
 use mathlib.Core.Path.{◌≡◌, sym, ◌∙◌, ap}
 use Prim.Native.Nat.{◌≤◌, ◌<◌}
@@ -7,27 +7,25 @@ use native.Mathlib.Numerals.{add-one}
 use native.Mathlib.Omega.{arith}
 use lib.ListN.{length-map}
 use lib.Seq.{drop-cons, ext_get_or}
-use Rattle.theory.specs.Basics.{true, List, [], length, get_or, drop, ℕ, suc, ℤ, pos}
+use Rattle.theory.specs.Basics.{true, List, [], length, get_or, drop, ℕ, ℤ, pos}
 use Rattle.theory.proofs.Basics.AtPlace.{map_at}
 use Rattle.theory.specs.Partition.{Parts, degree}
 use Rattle.theory.specs.ShapeWord.{shape_word, good_shape}
 use Rattle.theory.proofs.ShapeWord.Words.{word_back, small-has-room}
 use Rattle.theory.specs.Character.{◌on◌}
-use Rattle.theory.specs.Listing.{listing, start}
+use Rattle.theory.specs.Listing.{listing}
 use Rattle.theory.specs.Column.{column}
 use Rattle.theory.proofs.Column.Laws.{column-length, column-at}
 use Rattle.theory.proofs.Listing.Ranks.{at-rank}
-use Rattle.theory.proofs.Listing.Words.{start-within, word_at, word-ranked}
+use Rattle.theory.proofs.Listing.Words.{word-ranked}
 use Rattle.theory.specs.Bounds.Laws.{largest_limit}
-use Rattle.listing.specs.Calls.{words_within}
 use Rattle.classcolumns.specs.Private.Places.{Places}
 use Rattle.classcolumns.specs.Private.Columns.{entry, entries, Cycles, Kept}
 use Rattle.classcolumns.proofs.KeptTables.{ranked-evaluable}
 
-pub record NextEntry (p : Places) (table : List ℤ) (words : List ℕ) (n from i : ℕ) : Type 0 where
-  pub inside : from + i < length words
-  pub good : good_shape (get_or words (from + i) 0) ≡ true
-  pub reads : drop i (entries p table n) ≡ entry p table (get_or words (from + i) 0) ∷ drop (i + 1) (entries p table n)
+pub record NextEntry (p : Places) (table : List ℤ) (n i word : ℕ) : Type 0 where
+  pub good : good_shape word ≡ true
+  pub reads : drop i (entries p table n) ≡ entry p table word ∷ drop (i + 1) (entries p table n)
 
 module _ (p : Places) (table : List ℤ) (n : ℕ) where
   pub entries-length : length (entries p table n) ≡ length (listing n)
@@ -39,17 +37,14 @@ module _ (p : Places) (table : List ℤ) (n : ℕ) where
     unfolding entries
     entry_at = map_at (λ shape. entry p table (shape_word shape)) (listing n) [] (pos 0) i listed
 
-    pub next-entry : p.limit ≤ largest_limit → n ≤ p.limit → (words : List ℕ) (from : ℕ)
-        → words ≡ words_within p.limit → from ≡ start n → NextEntry p table words n from i
-    next-entry room small words from same starts =
-        let m : ℕ = suc p.limit in
+    pub next-entry : p.limit ≤ largest_limit → n ≤ p.limit → (word : ℕ) → word ≡ shape_word (get_or (listing n) i [])
+        → NextEntry p table n i word
+    next-entry room small word is =
         let within : i < length (entries p table n) = omega (arith, entries-length) in
-        let at = word_at m n i (omega arith) listed in
-        rw (same, starts)
+        rw is
         (record {
-          inside = start-within m n i (omega arith) listed;
-          good = rw at (word-ranked n i (omega arith) listed).good;
-          reads = rw (at, add-one, ← entry_at) (drop-cons (entries p table n) i (pos 0) within);
+          good = (word-ranked n i (omega arith) listed).good;
+          reads = rw (add-one, ← entry_at) (drop-cons (entries p table n) i (pos 0) within);
         })
 
 module _ {p : Places} {table : List ℤ} {cs : Parts} (room : p.limit ≤ largest_limit) (cycles : Cycles p.limit cs)

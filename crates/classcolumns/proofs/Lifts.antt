@@ -1,7 +1,7 @@
 -- One cycle more changes a table of characters, entry by entry; and so do all cycles, from the last.
 --   Cut limit cycles i n        the i-th cycle and those after it, together of degree n
 --   Lifting p h cs table i      a table of the cycles cs that becomes one of h ∷ cs: the words before index i are done
---   NextWord limit words i h    how the next is done: the word at the index i, and a cycle h of a good length
+--   NextWord limit word h       how the next is done: a word within the limit, and a cycle h of a good length
 --   Filling p cycles table i n  a table of the cycles from the i-th on, which have the degree n
 --   Earlier p cycles table i n  it has those after the i-th, and those from the i-th on have the degree n
 use Rattle.std.specs.Prelude.{◌∷◌, ◌+◌, ◌-◌}
@@ -22,8 +22,8 @@ use Rattle.theory.specs.Character.{◌on◌}
 use Rattle.theory.specs.Hooks.{hook_words}
 use Rattle.theory.specs.Hooks.Words.{Left}
 use Rattle.theory.proofs.Hooks.Words.{hooks-leave}
-use Rattle.theory.specs.Listing.{start}
-use Rattle.theory.proofs.Listing.Words.{start-rises, index, indexed, ranked-at}
+use Rattle.theory.specs.Listing.{listing, start}
+use Rattle.theory.proofs.Listing.Words.{start-next, index, indexed, ranked-at}
 use Rattle.theory.specs.Refusals.Laws.{Within}
 use Rattle.words.proofs.PartLists.{next-left, degree-left}
 use Rattle.listing.specs.Calls.{words_within}
@@ -61,10 +61,9 @@ pub record Lifting (p : Places) (h : ℕ) (cs : Parts) (table : List ℤ) (i : �
   pub from : start (degree (h ∷ cs)) ≤ i
   pub done : (w : ℕ) → Evaluable p.limit w (h ∷ cs) → index w < i → entry p table w ≡ shape_of w on (h ∷ cs)
 
-pub record NextWord (limit : ℕ) (words : List ℕ) (i h : ℕ) : Type 0 where
-  pub inside : i < length words
-  pub within : Within limit (get_or words i 0)
-  pub good : good_shape (get_or words i 0) ≡ true
+pub record NextWord (limit word h : ℕ) : Type 0 where
+  pub within : Within limit word
+  pub good : good_shape word ≡ true
   pub long : 0 < h
   pub short : h < 32
 
@@ -100,13 +99,12 @@ module _ {p : Places} (placed : Placed p) (h : ℕ) (cs : Parts) where
         let room = placed.room in
         ranked-evaluable cycles (ranked-at (suc p.limit) n i (omega arith) (omega arith) l.from more)
 
-    pub lift-word : (words : List ℕ) → words ≡ words_within p.limit → NextWord p.limit words i h
-    lift-word words same =
+    pub lift-word : (word : ℕ) → word ≡ here → NextWord p.limit word h
+    lift-word word is =
         let small = cycles.small in
         let room = placed.room in
-        rw same
+        rw is
         (record {
-          inside = omega (arith, start-rises (suc n) (suc p.limit) (omega arith));
           within = shape-within here-evaluable;
           good = here-evaluable.good;
           long = cycle-long here-evaluable;
@@ -125,8 +123,8 @@ module _ {p : Places} (placed : Placed p) (h : ℕ) (cs : Parts) where
     new : carried (hook_sum (entry p table) h here) ≡ shape_of here on (h ∷ cs)
     new = rw sum_is (character-carried (widened here-evaluable placed.room))
 
-    pub lift-next : Lifting p h cs (set table (p.place here) (carried (hook_sum (entry p table) h here))) (i + 1)
-    lift-next =
+    lift-here : Lifting p h cs (set table (p.place here) (carried (hook_sum (entry p table) h here))) (i + 1)
+    lift-here =
         let x : ℤ = shape_of here on (h ∷ cs) in
         let form = l.kept.form in
         let good = here-evaluable.good in
@@ -153,6 +151,15 @@ module _ {p : Places} (placed : Placed p) (h : ℕ) (cs : Parts) where
                     set_other placed table here x form good w other ∙ l.done w e (omega arith)
               ];
         })
+
+    pub lift-next : (word place : ℕ) (number : ℤ) → word ≡ here → place ≡ p.place word
+        → number ≡ hook_sum (entry p table) h word → Lifting p h cs (set table place (carried number)) (i + 1)
+    lift-next word place number is at counts = rw (counts, at, is) lift-here
+
+-- the words of the degree of the cycles from the i-th on
+pub cut-word : {limit i n : ℕ} (cycles : Parts) → Cut limit cycles i n → (k : ℕ) → k < length (listing n)
+    → start n + k < start (suc (degree (get_or cycles i 0 ∷ drop (i + 1) cycles)))
+cut-word {limit} {i} {n} cycles c k listed = omega (arith, rw add-one at c.ends, start-next n)
 
 -- ---- all cycles, from the last
 module _ (p : Places) (cycles : Parts) where

@@ -1,22 +1,36 @@
--- No second outcome meets a contract. Each theorem is of the contract itself, as Rattle reads it (`Reads.Post`).
-use mathlib.Core.Path.{◌≡◌, refl, sym, ◌∙◌}
-use Rattle.clearing.proofs.words.Reads as words
-use Rattle.clearing.proofs.coefficients.Reads as coefficients
-use Rattle.clearing.proofs.idle.words.Reads as idle-words
-use Rattle.clearing.proofs.idle.coefficients.Reads as idle-coefficients
+-- No second outcome meets a contract. Each theorem is of the contract itself, as Rattle reads it (`Reads.Post`): of any
+-- kind of numbers, and of words and coefficients.
+use Rattle.std.specs.Prelude.{◌≡◌, refl}
+use Rattle.std.proofs.Common.{sym, ◌∙◌}
+use denote.Builtin.{u64, i64}
+use Rattle.clearing.specs.contracts.words.U64Zero.TheImpl as words
+use Rattle.clearing.specs.contracts.coefficients.I64Zero.TheImpl as coefficients
+use Rattle.clearing.proofs.clear.Reads as clear
+use Rattle.clearing.proofs.is_clear.Reads as is-clear
 
-pub words-cleared-once : (κs : _) (a : _) (r r' : _) (s s' : _) → words.Post κs a r s → words.Post κs a r' s'
+pub cleared-once : (T L C zero D K E : _) (κs : _) (a : _) (r r' : _) (s s' : _)
+    → clear.Post T L C zero D K E κs a r s → clear.Post T L C zero D K E κs a r' s' → (r ≡ r') × (s.0.now ≡ s'.0.now)
+cleared-once T L C zero D K E κs a r r' s s' p q = (refl, p ∙ sym q)
+
+pub clear-once : (T L C zero D K E : _) (κs : _) (a : _) (r r' : _) (s s' : _)
+    → is-clear.Post T L C zero D K E κs a r s → is-clear.Post T L C zero D K E κs a r' s' → r ≡ r'
+clear-once T L C zero D K E κs a r r' s s' p q = p ∙ sym q
+
+pub words-cleared-once : (L C D K E : _) (κs : _) (a : _) (r r' : _) (s s' : _)
+    → clear.Post u64 L C words.ghosts D K E κs a r s → clear.Post u64 L C words.ghosts D K E κs a r' s'
     → (r ≡ r') × (s.0.now ≡ s'.0.now)
-words-cleared-once κs a r r' s s' p q = (refl, p ∙ sym q)
+words-cleared-once L C = cleared-once u64 L C words.ghosts
 
-pub coefficients-cleared-once : (κs : _) (a : _) (r r' : _) (s s' : _) → coefficients.Post κs a r s
-    → coefficients.Post κs a r' s' → (r ≡ r') × (s.0.now ≡ s'.0.now)
-coefficients-cleared-once κs a r r' s s' p q = (refl, p ∙ sym q)
+pub coefficients-cleared-once : (L C D K E : _) (κs : _) (a : _) (r r' : _) (s s' : _)
+    → clear.Post i64 L C coefficients.ghosts D K E κs a r s → clear.Post i64 L C coefficients.ghosts D K E κs a r' s'
+    → (r ≡ r') × (s.0.now ≡ s'.0.now)
+coefficients-cleared-once L C = cleared-once i64 L C coefficients.ghosts
 
-pub words-idle-once : (κs : _) (a : _) (r r' : _) (s s' : _) → idle-words.Post κs a r s → idle-words.Post κs a r' s'
-    → r ≡ r'
-words-idle-once κs a r r' s s' p q = p ∙ sym q
+pub words-idle-once : (L C D K E : _) (κs : _) (a : _) (r r' : _) (s s' : _)
+    → is-clear.Post u64 L C words.ghosts D K E κs a r s → is-clear.Post u64 L C words.ghosts D K E κs a r' s' → r ≡ r'
+words-idle-once L C = clear-once u64 L C words.ghosts
 
-pub coefficients-idle-once : (κs : _) (a : _) (r r' : _) (s s' : _) → idle-coefficients.Post κs a r s
-    → idle-coefficients.Post κs a r' s' → r ≡ r'
-coefficients-idle-once κs a r r' s s' p q = p ∙ sym q
+pub coefficients-idle-once : (L C D K E : _) (κs : _) (a : _) (r r' : _) (s s' : _)
+    → is-clear.Post i64 L C coefficients.ghosts D K E κs a r s
+    → is-clear.Post i64 L C coefficients.ghosts D K E κs a r' s' → r ≡ r'
+coefficients-idle-once L C = clear-once i64 L C coefficients.ghosts

@@ -1,33 +1,48 @@
-// What is lent to a session, cleared behind its lines (document 01, "Slip and page": zeros after the lines): a page of
-// words, and a column of coefficients. A call takes every input.
+// What is lent to a session, 0 behind its lines: a page of words, and a column of coefficients. A call takes every
+// input.
 
 #![tactic(auto)]
 
-ghost use Rattle.std.specs.Prelude.{◌≡◌, pos, ◌++◌, ◌-◌};
-ghost use Rattle.theory.specs.Basics.{length, take, replicate};
+ghost use Rattle.std.specs.Prelude.{◌≡◌, Bool, true, ◌++◌, ◌-◌, ◌↔◌};
+ghost use Rattle.theory.specs.Basics.{length, take, replicate, every};
 
-pub mod idle;
+mod coefficients;
+mod words;
 
-// Every word from a place on becomes 0.
-pub fn words(page: &mut [u64], from: usize)
-    ensures { page.new
-        ≡ take from page.old ++ replicate (length page.old - from) 0 }
+// A kind of numbers that are lent.
+pub trait Zero: Copy {
+    ghost ZERO: { Self };
+
+    const ZERO: Self;
+
+    ghost is_zero: { Self → Bool };
+
+    fn is_zero(self) -> bool
+        ensures { result ≡ is_zero self };
+
+    // What is found to be 0 is what is written.
+    ghost only: { (x : Self) → is_zero x ≡ true ↔ x ≡ ZERO };
+
+    // A copy can be made, and is the number itself.
+    ghost copied: { (x : Self) → Self.is_infallible x };
+
+    ghost same: { (x y : Self) → Self.is_clone x y → y ≡ x };
+}
+
+// All from a place on becomes 0 (document 01, "Slip and page": zeros after the lines).
+pub fn clear<T: Zero>(lent: &mut [T], from: usize)
+    ensures { lent.new ≡ take from lent.old ++ replicate (length lent.old - from) T.ZERO }
 {
-    let mut at = from;
-    while at < page.len() {
-        page[at] = 0;
-        at += 1;
+    if from < lent.len() {
+        lent[from..].fill(T::ZERO);
     }
 }
 
-// Every coefficient from a place on becomes 0.
-pub fn coefficients(column: &mut [i64], from: usize)
-    ensures { column.new
-        ≡ take from column.old ++ replicate (length column.old - from) (pos 0) }
+// Whether all is 0 (document 01, "every word after the lines is 0"; document 02, P7, of coefficients). It is read to its
+// end, which lets several be compared at once: `all`, which stops at the first that isn't 0, takes three times as long
+// on a whole page of zeros.
+pub fn is_clear<T: Zero>(lent: &[T]) -> bool
+    ensures { result ≡ every T.is_zero lent.now }
 {
-    let mut at = from;
-    while at < column.len() {
-        column[at] = 0;
-        at += 1;
-    }
+    lent.iter().fold(true, |clear, x| clear & x.is_zero())
 }

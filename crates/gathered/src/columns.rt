@@ -8,7 +8,7 @@ pub fn begin(column: &mut [i64], lines: usize)
     ensures { column.new
         ≡ replicate lines (pos 1) ++ replicate (length column.old - lines) (pos 0) }
 {
-    clearing::coefficients(column, 0);
+    clearing::clear(column, 0);
     if lines == 1 {
         column[0] = 1;
     }

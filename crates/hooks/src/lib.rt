@@ -1,13 +1,84 @@
 // The hooks of a shape word (document 01, "Hook of length h"), found by a mask. A hook has a zero, and a one as many
-// places below it as it is long; its stretch is the digits behind the zero, down to the one. Every call takes every
-// input.
+// places below it as it is long; its stretch is the digits behind the zero, down to the one. `of` goes over the hooks of
+// one length, in order. Every call takes every input.
 
 #![tactic(auto)]
 
-ghost use Rattle.std.specs.Prelude.{◌≡◌};
+ghost use Rattle.std.specs.Prelude.{◌≡◌, ◌<◌, ◌^◌};
 ghost use Rattle.theory.specs.Basics.{pos, signed};
+ghost use Rattle.theory.specs.Digits.{width};
+ghost use Rattle.theory.specs.Hooks.{hook_words};
 ghost use Rattle.theory.specs.Hooks.Marks.{marks as marksOf};
 ghost use Rattle.theory.specs.Hooks.Marks.Stretch.{stretch as stretch_of, zeros_odd, raised};
+ghost use Rattle.hooks.specs.Marked.{marked_hooks};
+
+use std::marker::Model;
+
+// A hook of a shape word: whether its sign is minus, and the word that it leaves.
+#[derive(Clone, Copy)]
+pub struct Hook {
+    pub minus: bool,
+    pub leaves: u32,
+}
+
+// The hooks of a shape word that are of one length, seen as the list of those that are to come. They begin at the ones
+// of `left`.
+#[derive(Drop)]
+pub struct Hooks {
+    shape: u32,
+    length: u32,
+    left: u32,
+}
+
+impl Model for Hooks {
+    ghost use Rattle.std.specs.Prelude.{◌<◌, ◌^◌, ℕ, List};
+    ghost use Rattle.theory.specs.Digits.{width};
+    ghost use Rattle.theory.specs.Hooks.{Hook};
+
+    ghost Value = { List (Hook ℕ) };
+
+    ghost use Rattle.hooks.specs.Marked.{marked_hooks};
+
+    ghost view = { λ hooks. marked_hooks hooks.length hooks.shape hooks.left };
+
+    ghost invariant = { λ hooks. hooks.left < 2 ^ width };
+}
+
+impl Iterator for Hooks {
+    ghost use Rattle.std.specs.Iterator.{YieldsFirstBy, item_count};
+    ghost use Rattle.hooks.specs.Marked.{hook_of};
+
+    type Item = Hook;
+
+    ghost next_gives = { YieldsFirstBy hook_of (λ hooks. hooks) };
+
+    ghost remaining = { item_count (λ hooks. hooks) };
+
+    fn next(&mut self) -> Option<Hook> {
+        if self.left == 0 {
+            return None;
+        }
+        let zero = 1u32 << (31 - u32::leading_zeros(self.left));
+        let stretch = stretch(zero, self.length);
+        self.left -= zero;
+        Some(Hook {
+            minus: minus(self.shape, stretch),
+            leaves: leaves(self.shape, stretch),
+        })
+    }
+}
+
+// The hooks of a shape word of one length, top row first.
+pub fn of(shape: u32, length: u32) -> Hooks
+    ensures marked { result ≡ marked_hooks length shape (marksOf shape length) }
+    ensures hooks { 0 < length → shape < 2 ^ width → result ≡ hook_words length shape }
+{
+    Hooks {
+        shape,
+        length,
+        left: marks(shape, length),
+    }
+}
 
 // A one at each place where a hook begins: a zero with a one `length` places below it.
 pub fn marks(shape: u32, length: u32) -> u32

@@ -1,3 +1,4 @@
+pub mod Taking
 pub mod Calls
 pub mod Lists
 pub mod MovedLists

@@ -12,6 +12,7 @@ ghost use Rattle.oldlists.specs.Lists.{first_bad, moved as movedList};
 ghost use Rattle.oldlists.specs.Private.Forms.{form_checks, other_form};
 
 use super::{LIST_LIMIT, ListAnswer};
+use words::parts::Parts;
 use words::{SHAPE_WORDS, classes, shapes};
 
 // The new word of an old one. `bits` begins as 31 ones and one more; each row takes its zero out of them, behind the
@@ -24,25 +25,19 @@ fn new_word(word: u32) -> u32
     if word == 0 {
         return 0;
     }
-    let mut rest = word;
-    let mut at = 0u32;
     let mut last = u32::leading_zeros(word);
     let mut left = 31u32;
     let mut bits = 0x8000_0000u32;
-    while rest != 0 {
-        let one = u32::leading_zeros(rest);
-        let part = one - at;
+    for part in Parts::of(word) {
         left = left - (last - part) - 1;
         bits -= 1u32 << left;
         last = part;
-        at = one;
-        rest -= 1u32 << (31 - one);
     }
     bits - (1u32 << (left - last))
 }
 
-// The old word of a new one. Its digits are complemented, up to the last one, so that leading zeros give the next row;
-// that is as long as there are ones left.
+// The old word of a new one. Its digits are complemented, up to the last one, so that a one stands for each row; that is
+// as long as there are ones left.
 fn old_word(word: u32) -> u32
     requires { Within largest_limit word }
     ensures { result ≡ old_word word }
@@ -50,18 +45,14 @@ fn old_word(word: u32) -> u32
     if word == 0 {
         return 0;
     }
-    let mut rest = 0x8000_0000 - (1u32 << u32::trailing_zeros(word)) - word;
-    let mut at = 0u32;
+    let complement = 0x8000_0000 - (1u32 << u32::trailing_zeros(word)) - word;
     let mut length = u32::count_ones(word);
     let mut left = 31u32;
     let mut bits = 0u32;
-    while rest != 0 {
-        let one = u32::leading_zeros(rest);
-        length -= one - at - 1;
+    for part in Parts::of(complement) {
+        length -= part - 1;
         left -= length;
         bits += 1u32 << left;
-        at = one;
-        rest -= 1u32 << (31 - one);
     }
     bits
 }
@@ -86,13 +77,11 @@ fn refusal(word: u32, old: bool) -> u8
 fn first_bad(words: &[u32], old: bool) -> ListAnswer
     ensures { result ≡ first_bad (form_checks degree_limit old) 0 words.now }
 {
-    let mut i = 0;
-    while i < words.len() {
-        let refused = refusal(words[i], old);
+    for (i, word) in words.iter().enumerate() {
+        let refused = refusal(*word, old);
         if refused != 0 {
             return ListAnswer { refused, index: i };
         }
-        i += 1;
     }
     ListAnswer {
         refused: 0,
@@ -113,10 +102,8 @@ fn write(given: &[u32], lent: &mut [u32], old: bool)
     requires { (length given.now ≡ length lent.old) × Each (Passes (form_checks degree_limit old)) given.now }
     ensures { lent.new ≡ map (other_form old) given.now }
 {
-    let mut i = 0;
-    while i < given.len() {
-        lent[i] = other_form(given[i], old);
-        i += 1;
+    for (i, word) in given.iter().enumerate() {
+        lent[i] = other_form(*word, old);
     }
 }
 

@@ -91,27 +91,30 @@ paid-stays limit k d b c lines e = rw e (go (1 ≤? d && k * factorial d ≤? b.
     go false n = sym (overspent-stays limit lines)
 
 -- ---- paying, test by test
-module _ (k d : ℕ) (b : Budget) where
-  pub no_line : d ≡ 0 → overspent ≡ paid_for k d b
+module _ (d : ℕ) (b : Budget) where
+  pub no_line : d ≡ 0 → overspent ≡ paid_for 1 d b
   unfolding paid_for
   no_line none = rw none
 
-  module _ (some : d ≡ 0 → ⊥) (value : ℕ) (cost : value ≡ k * factorial d) where
+  module _ (some : d ≡ 0 → ⊥) (value : ℕ) (cost : value ≡ factorial d) where
     is_some : 1 ≤? d ≡ true
     is_some = le-leb 1 d (omega arith)
 
-    pub too-dear : b.value < value → overspent ≡ paid_for k d b
+    once : 1 * factorial d ≡ value
+    once = omega (arith, cost)
+
+    pub too-dear : b.value < value → overspent ≡ paid_for 1 d b
     unfolding paid_for
-    too-dear short = rw (is_some, ← cost, lt-leb value b.value short)
+    too-dear short = rw (is_some, once, lt-leb value b.value short)
 
     module _ (paid : value ≤ b.value) (span : ℕ) (steps : span ≡ S d) where
-      pub too_long : b.span < span → overspent ≡ paid_for k d b
+      pub too_long : b.span < span → overspent ≡ paid_for 1 d b
       unfolding paid_for
-      too_long short = rw (is_some, ← cost, ← steps, le-leb value b.value paid, lt-leb span b.span short)
+      too_long short = rw (is_some, once, ← steps, le-leb value b.value paid, lt-leb span b.span short)
 
-      pub all_paid : span ≤ b.span → left b.degree (b.value - value) (b.span - span) ≡ paid_for k d b
+      pub all_paid : span ≤ b.span → left b.degree (b.value - value) (b.span - span) ≡ paid_for 1 d b
       unfolding paid_for
-      all_paid lasts = rw (is_some, ← cost, ← steps, le-leb value b.value paid, le-leb span b.span lasts)
+      all_paid lasts = rw (is_some, once, ← steps, le-leb value b.value paid, le-leb span b.span lasts)
 
 -- ---- from line to line
 pub spent-next : (limit : ℕ) (b c : Budget) (xs : List ℕ) (i d : ℕ) → i < length xs

@@ -42,10 +42,10 @@ module _ (limit : ℕ) (slip : Slip) (page : List ℕ) (column : List ℤ) where
   abbrev pub are_afforded : Bool
   are_afforded = afforded limit (budget_of limit slip) lines
 
-  abbrev are_different : Bool
+  abbrev pub are_different : Bool
   are_different = all_different (take slip.lines page)
 
-  abbrev words_idle : Bool
+  abbrev pub words_idle : Bool
   words_idle = every (◌=? 0) (drop slip.lines page)
 
   abbrev column_idle : Bool
@@ -63,25 +63,12 @@ module _ (limit : ℕ) (slip : Slip) (page : List ℕ) (column : List ℤ) where
         ∙ ap (λ d. words_idle && column_idle && (d && weigh && enough)) (sym differ)
         ∙ judged gathered_mode limit slip (page, column) says fit
 
-    pub not-afforded : are_afforded ≡ false → false ≡ is_sound
-    not-afforded short = sym (ap (λ a. a && are_different && words_idle && column_idle) short) ∙ tests
+    -- the last test decides where the others hold
+    pub some-test-fails : (are_afforded && are_different && words_idle) ≡ false → false ≡ is_sound
+    some-test-fails fails = sym (ap (λ t. t && column_idle) fails) ∙ tests
 
-    module _ (paid : are_afforded ≡ true) where
-      pub two-equal : are_different ≡ false → false ≡ is_sound
-      two-equal equal =
-          let so : (are_afforded && are_different && words_idle && column_idle) ≡ false = rw (paid, equal) in
-          sym so ∙ tests
-
-      module _ (differ : are_different ≡ true) where
-        pub not-idle : words_idle ≡ false → false ≡ is_sound
-        not-idle some =
-            let so : (are_afforded && are_different && words_idle && column_idle) ≡ false = rw (paid, differ, some) in
-            sym so ∙ tests
-
-        pub then-column : words_idle ≡ true → column_idle ≡ is_sound
-        then-column none =
-            let so : (are_afforded && are_different && words_idle && column_idle) ≡ column_idle = rw (paid, differ, none) in
-            sym so ∙ tests
+    pub then-column : (are_afforded && are_different && words_idle) ≡ true → column_idle ≡ is_sound
+    then-column holds = sym (ap (λ t. t && column_idle) holds) ∙ tests
 
   -- ---- why they are refused
   abbrev refusal : ℕ

@@ -1,7 +1,8 @@
 -- Lines of the gathered mode, as the code meets them: by their words, whose sign digits are to be clear, and by their
 -- coefficients.
-use Rattle.std.specs.Prelude.{◌&&◌, ◌∷◌, ◌+◌, ◌-◌, ◌/◌, ◌%◌, ◌^◌}
-use mathlib.Core.Path.{◌≡◌, refl, ap, ap₂}
+use Rattle.std.specs.Prelude.{◌&&◌, ◌∷◌, ◌+◌, ◌-◌, ◌*◌, ◌/◌, ◌%◌, ◌^◌}
+use mathlib.Core.Path.{◌≡◌, refl, ◌∙◌, ap, ap₂}
+use native.Mathlib.Nat.{zero-mul}
 use Prim.Native.Nat.{◌≤◌, ◌<◌}
 use native.Mathlib.Numerals.{add-one}
 use native.Mathlib.Omega.{arith}
@@ -16,7 +17,7 @@ use Rattle.theory.specs.Digits.{bit}
 use Rattle.pages.specs.Gathering.{alike, distinct}
 use Rattle.pages.specs.Mode.{weighted, alongside}
 use Rattle.pages.specs.Private.Differences.{all_different}
-use Rattle.pages.specs.Private.Gathered.{more_cost, suffices_besides}
+use Rattle.pages.specs.Private.Gathered.{word_cost, more_cost, suffices_besides}
 
 -- ---- words differ where lines do
 alike-words : (x y : ℕ) (z w : ℤ) → alike (weighted x z) (weighted y w) ≡ x =? y
@@ -47,7 +48,7 @@ different-words (x ∷ xs) (z ∷ zs) e =
     ap₂ ◌&&◌ (unlike-words x z xs zs (omega arith)) (different-words xs zs (omega arith))
 
 -- ---- from line to line
-module _ (limit : ℕ) (xs : List ℕ) (zs : List ℤ) (same : length xs ≡ length zs) where
+module _ (limit : ℕ) (xs : List ℕ) (zs : List ℤ) where
   module _ (value i : ℕ) where
     abbrev suffice-from : ℕ → ℕ → Bool
     suffice-from value k = suffices_besides limit value (drop k xs) (drop k zs)
@@ -56,18 +57,15 @@ module _ (limit : ℕ) (xs : List ℕ) (zs : List ℤ) (same : length xs ≡ len
     unfolding suffices_besides
     besides-end end = rw (drop_of_length-le xs end)
 
-    module _ (there : i < length xs) where
-      abbrev x : ℕ
-      x = get_or xs i 0
-
-      abbrev z : ℤ
-      z = get_or zs i (pos 0)
-
+    -- the word and the coefficient of the line
+    module _ {x : ℕ} {z : ℤ}
+        (turn : (i < length xs) × (i < length zs) × ((d : ℕ) → x ≡ get_or xs i d) × ((d : ℤ) → z ≡ get_or zs i d)) where
       one_line : suffice-from value i
           ≡ (x <? 2 ^ 63 && not (nat_abs z =? 0) && more_cost limit x z ≤? value
           && suffice-from (value - more_cost limit x z) (i + 1))
       unfolding suffices_besides
-      one_line = rw (add-one i, drop-cons xs i 0 there, drop-cons zs i (pos 0) (omega arith)) refl
+      one_line =
+          rw (turn.2 0, turn.3 (pos 0), add-one i, drop-cons xs i 0 turn.0, drop-cons zs i (pos 0) turn.1) refl
 
       pub besides-sign : bit 63 x ≡ true → false ≡ suffice-from value i
       besides-sign set =
@@ -90,3 +88,11 @@ module _ (limit : ℕ) (xs : List ℕ) (zs : List ℤ) (same : length xs ≡ len
               → suffice-from (value - more_cost limit x z) (i + 1) ≡ suffice-from value i
           besides-next paid =
               rw (one_line, below, ne_eqb (nat_abs z) 0 some, le-leb (more_cost limit x z) value paid)
+
+          -- a coefficient of size 1 asks for nothing besides
+          pub besides-once : nat_abs z ≤ 1 → suffice-from value (i + 1) ≡ suffice-from value i
+          besides-once one =
+              let none : more_cost limit x z ≡ 0 =
+              ap (λ k. k * word_cost limit x) (omega (arith, some)) ∙ zero-mul (word_cost limit x) in
+              let same : value ≡ value - more_cost limit x z = omega (arith, none) in
+              ap (λ v. suffice-from v (i + 1)) same ∙ besides-next (omega (arith, none))

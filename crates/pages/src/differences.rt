@@ -1,5 +1,5 @@
 // Whether no two words are equal. No word is compared to all others: each is on one of many chains, on which equal
-// words meet.
+// words meet: a hash index in fixed memory, since no map of the library has its words on the stack.
 ghost use Rattle.std.specs.Prelude.{◌≡◌, ◌≤◌, ◌<◌, length, take};
 ghost use Rattle.theory.specs.Limits.{page_limit};
 ghost use Rattle.pages.specs.Private.Differences.{all_different, absent, chain_of, few_chains, Walk, Room};
@@ -47,18 +47,14 @@ fn different_with(words: &[u64], heads: &mut [u16], links: &mut [u16]) -> bool
     requires { Room words.now heads.old links.old }
     ensures { result ≡ all_different words.now }
 {
-    let mut i = 0;
-    while i < words.len() {
-        let word = words[i];
+    for (i, &word) in words.iter().enumerate() {
         let place = chain(word, heads.len());
         let latest = heads[place];
-        if fresh(words, links, word, latest as usize) {
-            links[i] = latest;
-            i += 1;
-            heads[place] = i as u16;
-        } else {
+        if !fresh(words, links, word, latest as usize) {
             return false;
         }
+        links[i] = latest;
+        heads[place] = (i + 1) as u16;
     }
     true
 }

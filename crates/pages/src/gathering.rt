@@ -2,7 +2,6 @@
 // coefficient's size"): the gathered mode.
 ghost use Rattle.std.specs.Prelude.{◌≡◌, ◌*◌, ◌^◌, ◌≤◌, ◌<◌};
 ghost use Rattle.theory.specs.Basics.{false, length, ◌≤?◌};
-ghost use Rattle.theory.specs.Bounds.{factorial};
 ghost use Rattle.theory.specs.Limits.{degree_limit, page_limit};
 ghost use Rattle.theory.specs.Refusals.{first_of};
 ghost use Rattle.words.specs.Answers.{refusal_of};
@@ -10,13 +9,11 @@ ghost use Rattle.pages.specs.Mode.{alongside, gathered_mode};
 ghost use Rattle.pages.specs.Sound.{sound_in, page_checks_in};
 ghost use Rattle.pages.specs.Private.Degrees.{AllKnown};
 ghost use Rattle.pages.specs.Private.Gathered.{word_cost, suffices_besides, afforded as isAfforded};
-ghost use Rattle.pages.specs.Private.Tables.{Tabled};
 
 use super::degrees::{MANY, PLACES};
-use super::paying::SPANS;
-use super::{Budget, GATHERED, PAGE_LIMIT, Slip, degrees, differences, paying, soundness};
+use super::tables::Tables;
+use super::{Budget, GATHERED, PAGE_LIMIT, Slip, degrees, differences, soundness};
 use words::Refusal;
-use words::classes::FACTORIALS;
 
 // 2^19: less than so often 16!, which is below 2^45, has room in 64 bits.
 const FEW_TIMES: u64 = 0x8_0000;
@@ -34,12 +31,11 @@ fn affords(value: u64, times: u64, cost: u64) -> bool
 }
 
 // d! of a line, d being the degree of its shape word, which is read once where places are lent.
-fn cost(line: u64, factorials: &[u64], shapes: &mut [u64]) -> u64
-    requires { Tabled degree_limit factorial factorials.now × AllKnown false shapes.old }
+fn cost(line: u64, tables: &Tables, shapes: &mut [u64]) -> u64
+    requires { AllKnown false shapes.old }
     ensures { (result ≡ word_cost degree_limit line) × AllKnown false shapes.new }
 {
-    let degree = degrees::word_degree(false, linewords::shape(line), shapes);
-    factorials[degree as usize]
+    tables.factorial(degrees::word_degree(false, linewords::shape(line), shapes))
 }
 
 // Whether no sign digit is set, no coefficient is 0 and a value suffices for what the coefficients ask for besides each
@@ -48,33 +44,29 @@ fn besides(
     value: u64,
     lines: &[u64],
     coefficients: &[i64],
-    factorials: &[u64],
+    tables: &Tables,
     shapes: &mut [u64],
 ) -> bool
-    requires { (length lines.now ≡ length coefficients.now)
-        × Tabled degree_limit factorial factorials.now × AllKnown false shapes.old }
+    requires { (length lines.now ≡ length coefficients.now) × AllKnown false shapes.old }
     ensures { result ≡ suffices_besides degree_limit value lines.now coefficients.now }
 {
     let mut left = value;
-    let mut i = 0;
-    while i < lines.len() {
-        let line = lines[i];
+    for (&line, &coefficient) in lines.iter().zip(coefficients) {
         if linewords::minus(line) {
             return false;
         }
-        let size = paying::size(coefficients[i]);
+        let size = coefficient.unsigned_abs();
         if size == 0 {
             return false;
         }
         if 1 < size {
-            let cost = cost(line, factorials, shapes);
+            let cost = cost(line, tables, shapes);
             if affords(left, size - 1, cost) {
                 left -= (size - 1) * cost;
             } else {
                 return false;
             }
         }
-        i += 1;
     }
     true
 }
@@ -86,16 +78,15 @@ fn afforded(budget: Budget, lines: &[u64], coefficients: &[i64]) -> bool
     requires { length lines.now ≡ length coefficients.now }
     ensures { result ≡ isAfforded degree_limit budget (alongside lines.now coefficients.now) }
 {
-    let factorials = FACTORIALS;
-    let spans = SPANS;
-    let after = soundness::spent(budget, lines, &factorials, &spans);
+    let tables = Tables::new();
+    let after = soundness::spent(budget, lines, &tables);
     if after.enough {
         if lines.len() < MANY {
             let mut shapes = [0u64; 0];
-            return besides(after.value, lines, coefficients, &factorials, &mut shapes);
+            return besides(after.value, lines, coefficients, &tables, &mut shapes);
         }
         let mut shapes = [0u64; PLACES];
-        return besides(after.value, lines, coefficients, &factorials, &mut shapes);
+        return besides(after.value, lines, coefficients, &tables, &mut shapes);
     }
     false
 }
@@ -113,14 +104,10 @@ fn sound(slip: Slip, page: &[u64], coefficients: &[i64]) -> bool
         return false;
     }
     let before = soundness::budget(slip);
-    if afforded(before, &page[..lines], &coefficients[..lines]) {
-        if differences::different(&page[..lines]) {
-            if clearing::idle::words(&page[lines..]) {
-                return clearing::idle::coefficients(&coefficients[lines..]);
-            }
-        }
-    }
-    false
+    afforded(before, &page[..lines], &coefficients[..lines])
+        && differences::different(&page[..lines])
+        && clearing::is_clear(&page[lines..])
+        && clearing::is_clear(&coefficients[lines..])
 }
 
 // Why a slip, a page and its coefficients are refused: 6, 21, then 7.

@@ -8,6 +8,7 @@ mod differences;
 pub mod gathering;
 mod paying;
 pub mod soundness;
+mod tables;
 
 // The most words of a page.
 pub const PAGE_LIMIT: usize = 4096;

@@ -1,12 +1,11 @@
 // Two budgets, n! and S(n), that fall as the settled sum, the steps and the lines take from them, and never a sum that
 // grows.
-ghost use Rattle.std.specs.Prelude.{◌≡◌, nat_abs};
-ghost use Rattle.theory.specs.Bounds.{factorial, S};
+ghost use Rattle.std.specs.Prelude.{◌≡◌};
 ghost use Rattle.theory.specs.Limits.{degree_limit};
 ghost use Rattle.pages.specs.Budget.{overspent as noBudget, budget_of};
 ghost use Rattle.pages.specs.Private.Degrees.{most_degree};
-ghost use Rattle.pages.specs.Private.Tables.{Tabled};
 
+use super::tables::Tables;
 use super::{Budget, Slip};
 use words::SHAPE_WORDS;
 
@@ -31,17 +30,6 @@ pub const SPANS: [u64; words::DEGREES] = [
     35951249665217,
 ];
 
-// The size of a number, of the least too.
-pub fn size(z: i64) -> u64
-    ensures { result ≡ nat_abs z }
-{
-    if z < 0 {
-        (-(z + 1)) as u64 + 1
-    } else {
-        z as u64
-    }
-}
-
 // A budget that does not suffice.
 pub fn overspent() -> Budget
     ensures { result ≡ noBudget }
@@ -54,9 +42,8 @@ pub fn overspent() -> Budget
     }
 }
 
-// What n! leaves after the settled size and S(n) after the steps. The tables are lent.
-pub fn first(slip: Slip, factorials: &[u64], spans: &[u64]) -> Budget
-    requires { Tabled degree_limit factorial factorials.now × Tabled degree_limit S spans.now }
+// What n! leaves after the settled size and S(n) after the steps.
+pub fn first(slip: Slip, tables: &Tables) -> Budget
     ensures { result ≡ budget_of degree_limit slip }
 {
     if SHAPE_WORDS <= slip.shape {
@@ -69,13 +56,13 @@ pub fn first(slip: Slip, factorials: &[u64], spans: &[u64]) -> Budget
         return overspent();
     }
     let degree = asked.degree;
-    let settled = size(slip.settled);
-    let value = factorials[degree as usize];
+    let settled = slip.settled.unsigned_abs();
+    let value = tables.factorial(degree);
     if value < settled {
         return overspent();
     }
-    let steps = size(slip.steps);
-    let span = spans[degree as usize];
+    let steps = slip.steps.unsigned_abs();
+    let span = tables.span(degree);
     if span < steps {
         return overspent();
     }
@@ -92,10 +79,8 @@ pub fn most_degree(budget: Budget) -> u32
     ensures { result ≡ most_degree degree_limit budget }
 {
     if budget.enough {
-        if words::LIMIT < budget.degree {
-            return words::LIMIT;
-        }
-        return budget.degree;
+        budget.degree.min(words::LIMIT)
+    } else {
+        0
     }
-    0
 }

@@ -1,7 +1,6 @@
 // Whether slip and page are sound (document 01, "Sound slip and page"), in the plain mode.
 ghost use Rattle.std.specs.Prelude.{◌≡◌, ◌≤◌};
 ghost use Rattle.theory.specs.Basics.{map};
-ghost use Rattle.theory.specs.Bounds.{factorial, S};
 ghost use Rattle.theory.specs.Limits.{degree_limit};
 ghost use Rattle.theory.specs.Refusals.{first_of};
 ghost use Rattle.words.specs.Answers.{refusal_of};
@@ -9,29 +8,26 @@ ghost use Rattle.pages.specs.Page.{line_of};
 ghost use Rattle.pages.specs.Sound.{sound as is_sound, page_checks};
 ghost use Rattle.pages.specs.Budget.{budget_of, spent_all};
 ghost use Rattle.pages.specs.Private.Degrees.{paid_for, Knows};
-ghost use Rattle.pages.specs.Private.Tables.{Tabled};
 
 use super::degrees::{MANY, PLACES};
-use super::paying::SPANS;
+use super::tables::Tables;
 use super::{Budget, PAGE_LIMIT, PLAIN, Slip, degrees, paying};
 use words::Refusal;
-use words::classes::FACTORIALS;
 
 // What a line of this degree leaves of a budget: its d! is taken from the one and its S(d) from the other. The degree 0
-// is no line's. The tables are lent, since a constant would be made anew for each line.
-fn paid(budget: Budget, degree: u32, factorials: &[u64], spans: &[u64]) -> Budget
-    requires { Tabled degree_limit factorial factorials.now × Tabled degree_limit S spans.now
-        × (degree ≤ degree_limit) }
+// is no line's.
+fn paid(budget: Budget, degree: u32, tables: &Tables) -> Budget
+    requires { degree ≤ degree_limit }
     ensures { result ≡ paid_for 1 degree budget }
 {
     if degree == 0 {
         return paying::overspent();
     }
-    let value = factorials[degree as usize];
+    let value = tables.factorial(degree);
     if budget.value < value {
         return paying::overspent();
     }
-    let span = spans[degree as usize];
+    let span = tables.span(degree);
     if budget.span < span {
         return paying::overspent();
     }
@@ -47,23 +43,18 @@ fn paid(budget: Budget, degree: u32, factorials: &[u64], spans: &[u64]) -> Budge
 fn spent_with(
     budget: Budget,
     lines: &[u64],
-    factorials: &[u64],
-    spans: &[u64],
+    tables: &Tables,
     shapes: &mut [u64],
     classes: &mut [u64],
 ) -> Budget
-    requires { Tabled degree_limit factorial factorials.now × Tabled degree_limit S spans.now
-        × Knows shapes.old classes.old }
+    requires { Knows shapes.old classes.old }
     ensures { result ≡ spent_all degree_limit budget (map line_of lines.now) }
 {
     let mut left = budget;
-    let mut i = 0;
-    while i < lines.len() {
-        let degree = degrees::degree(lines[i], paying::most_degree(left), shapes, classes);
-        left = paid(left, degree, factorials, spans);
-        if left.enough {
-            i += 1;
-        } else {
+    for &line in lines {
+        let degree = degrees::degree(line, paying::most_degree(left), shapes, classes);
+        left = paid(left, degree, tables);
+        if !left.enough {
             return left;
         }
     }
@@ -72,18 +63,17 @@ fn spent_with(
 
 // The same, with places where there are many lines, which have few words between them: they start as zeros, which are
 // right, since the word 0 has the degree 0.
-pub(crate) fn spent(budget: Budget, lines: &[u64], factorials: &[u64], spans: &[u64]) -> Budget
-    requires { Tabled degree_limit factorial factorials.now × Tabled degree_limit S spans.now }
+pub(crate) fn spent(budget: Budget, lines: &[u64], tables: &Tables) -> Budget
     ensures { result ≡ spent_all degree_limit budget (map line_of lines.now) }
 {
     if lines.len() < MANY {
         let mut shapes = [0u64; 0];
         let mut classes = [0u64; 0];
-        return spent_with(budget, lines, factorials, spans, &mut shapes, &mut classes);
+        return spent_with(budget, lines, tables, &mut shapes, &mut classes);
     }
     let mut shapes = [0u64; PLACES];
     let mut classes = [0u64; PLACES];
-    spent_with(budget, lines, factorials, spans, &mut shapes, &mut classes)
+    spent_with(budget, lines, tables, &mut shapes, &mut classes)
 }
 
 // What n! and S(n) leave after the settled size and the steps; not enough where the slip's words are not sound, the
@@ -91,9 +81,7 @@ pub(crate) fn spent(budget: Budget, lines: &[u64], factorials: &[u64], spans: &[
 pub fn budget(slip: Slip) -> Budget
     ensures { result ≡ budget_of degree_limit slip }
 {
-    let factorials = FACTORIALS;
-    let spans = SPANS;
-    paying::first(slip, &factorials, &spans)
+    paying::first(slip, &Tables::new())
 }
 
 // What lines leave of a budget: each has to be sound and of the budget's degree at most, and takes its d! from the one
@@ -101,9 +89,7 @@ pub fn budget(slip: Slip) -> Budget
 pub fn spend(budget: Budget, lines: &[u64]) -> Budget
     ensures { result ≡ spent_all degree_limit budget (map line_of lines.now) }
 {
-    let factorials = FACTORIALS;
-    let spans = SPANS;
-    spent(budget, lines, &factorials, &spans)
+    spent(budget, lines, &Tables::new())
 }
 
 // Whether slip and page are sound.
@@ -117,12 +103,11 @@ fn sound(slip: Slip, page: &[u64]) -> bool
     if page.len() < lines {
         return false;
     }
-    let factorials = FACTORIALS;
-    let spans = SPANS;
-    let before = paying::first(slip, &factorials, &spans);
-    let after = spent(before, &page[..lines], &factorials, &spans);
+    let tables = Tables::new();
+    let before = paying::first(slip, &tables);
+    let after = spent(before, &page[..lines], &tables);
     if after.enough {
-        return clearing::idle::words(&page[lines..]);
+        return clearing::is_clear(&page[lines..]);
     }
     false
 }

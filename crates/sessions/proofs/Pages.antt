@@ -1,18 +1,11 @@
--- What the loops over a page do to it. A line is taken out step by step: to move the next line down and to take that
--- one out is to take this one out.
-use Rattle.std.specs.Prelude.{◌∷◌, ◌++◌, ◌+◌, ◌-◌}
-use mathlib.Core.Path.{◌≡◌, refl, sym, ◌∙◌, ap}
-use mathlib.Core.List.{append-nil}
-use Prim.Native.Nat.{◌≤◌, ◌<◌}
-use native.Mathlib.Nat.{add-suc}
-use native.Mathlib.Numerals.{add-one}
-use native.Mathlib.Omega.{arith}
-use borrow.Author.Tests.{eq-eqb, ne_eqb}
-use lib.ListN.{set, length-append, length-drop, length-replicate, drop_of_length-le}
-use lib.Seq.{take-take, take-set-lt, take-suc-set, drop-set-lt, drop-cons, append_snoc, get_or-take, set_split}
-use lib.Seq.{length-take-le, take_at, drop-append-add, sets, sets-eq}
-use Rattle.theory.specs.Basics.{Bool, true, false, List, [], length, get_or, take, drop, replicate, ℕ, zero, suc}
-use Rattle.theory.specs.Basics.{same, Each}
+-- What the calls on a page do to it: a line is taken out, and a strip of lines is put in its place at the end.
+use Rattle.std.specs.Prelude.{◌≡◌, ◌≤◌, ◌∷◌, ◌++◌, ◌+◌, ◌-◌}
+use Rattle.std.proofs.Common.{refl, sym, ◌∙◌, ap, arith, append_assoc, add-one, length-append, length-drop, take-take}
+use Rattle.std.proofs.Math.Seq.{paste, length-take-le, take_at, drop-append-add}
+use Rattle.std.proofs.Math.ListN.{length-replicate}
+use Rattle.std.proofs.lemmas.List.{drop-drop, drop-take, set_split}
+use Rattle.std.proofs.lemmas.List.Edits.{sets, sets-eq, length-paste, take-paste, drop-paste, paste_all}
+use Rattle.theory.specs.Basics.{List, [], length, take, drop, replicate, set, ℕ, zero, suc, Each}
 use Rattle.sessions.specs.Private.Pages.{others, taken_out, Exchanges, exchanged}
 
 -- ---- words that are 0
@@ -32,63 +25,29 @@ drop-zeros (suc k) (suc n) =
     rw e (drop-zeros k n)
 
 -- ---- a line taken out
-module _ (page : List ℕ) (i lines : ℕ) (fit : lines ≤ length page) where
-  pub out-next : i + 1 < lines → taken_out (set page i (get_or page (i + 1) 0)) (i + 1) lines ≡ taken_out page i lines
-  unfolding taken_out
-  out-next more =
-      let waiting : List ℕ = take lines page in
-      let there = length-take-le lines page fit in
-      rw (
-        add-one i,
-        take-set-lt lines page i (get_or page (suc i) 0) (omega arith),
-        take-suc-set waiting i (get_or page (suc i) 0) (omega arith),
-        drop-set-lt (suc (suc i)) waiting i (get_or page (suc i) 0) (omega arith),
-        drop-set-lt lines page i (get_or page (suc i) 0) (omega arith),
-        append_snoc (take i waiting) (get_or page (suc i) 0) (drop (suc (suc i)) waiting),
-        drop-cons waiting (suc i) 0 (omega arith),
-        get_or-take lines page (suc i) 0 (omega arith),
-      )
-
-  pub out-last : i + 1 ≡ lines → set page i 0 ≡ taken_out page i lines
-  unfolding taken_out
-  out-last last =
-      let e : lines ≡ suc i = omega arith in
-      let l = length-take-le (suc i) page (omega arith) in
-      let gone : drop (suc i) (take (suc i) page) ≡ [] =
-      drop_of_length-le (take (suc i) page) {i = suc i} (omega arith) in
-      rw (e, take-take i (suc i) page (omega arith), gone, append-nil) (set_split page i 0 (omega arith))
+-- the n lines behind it move down over it, and the last of their words becomes 0
+pub moved-out : (page : List ℕ) (line n next last lines : ℕ) → next ≡ suc line → last ≡ line + n
+    → lines ≡ suc (line + n) → lines ≤ length page
+    → set (paste page line (drop next page) n) last 0 ≡ taken_out page line lines
+unfolding taken_out
+moved-out page line n next last lines behind end all fit =
+    let later : List ℕ = drop (suc line) page in
+    let moved : List ℕ = paste page line later n in
+    let some : n ≤ length later = omega (arith, length-drop (suc line) page) in
+    let before : line ≤ length page = omega arith in
+    let back : drop (suc (line + n)) moved ≡ drop (suc (line + n)) page =
+    rw (← add-one (line + n), ← drop-drop 1 (line + n) moved, drop-paste page line later n before some) (drop-drop 1 (line + n) page) in
+    let added : suc (line + n) ≡ suc line + n = omega arith in
+    let kept : drop (suc line) (take (suc (line + n)) page) ≡ take n later = rw added (drop-take (suc line) n page) in
+    rw (behind, end, all, set_split moved (line + n) 0 (omega (arith, length-paste page line later n (omega arith) some)), take-paste page line later n before some, back, kept, take-take line (suc (line + n)) page (omega arith))
 
 -- ---- a strip put
-pub put_word : (page strip : List ℕ) (at i : ℕ) → i < length strip
-    → sets (set page (at + i) (get_or strip i 0)) (at + (i + 1)) (drop (i + 1) strip) ≡ sets page (at + i) (drop i strip)
-put_word page strip at i l = rw (add-one i, add-suc at i, drop-cons strip i 0 l)
-
-pub put_last : (page strip : List ℕ) (at i : ℕ) → length strip ≤ i → page ≡ sets page (at + i) (drop i strip)
-put_last page strip at i l = rw (drop_of_length-le strip l)
-
--- ---- a strip compared
--- whether a strip begins with words, each from its own place on
-abbrev pub begins : List ℕ → List ℕ → Bool
-begins words strip = same words (take (length words) strip)
-
-module _ (words strip : List ℕ) (i : ℕ) where
-  module _ (more : i < length words) where
-    pub ends-before : length strip ≤ i → begins (drop i words) (drop i strip) ≡ false
-    ends-before short = rw (drop_of_length-le strip short, drop-cons words i 0 more) refl
-
-    module _ (there : i < length strip) where
-      pub differs : (get_or strip i 0 ≡ get_or words i 0 → ⊥) → begins (drop i words) (drop i strip) ≡ false
-      differs n =
-          rw (drop-cons words i 0 more, drop-cons strip i 0 there, ne_eqb (get_or words i 0) (get_or strip i 0) (λ e. n (sym e))) refl
-
-      pub agrees : get_or strip i 0 ≡ get_or words i 0
-          → begins (drop (i + 1) words) (drop (i + 1) strip) ≡ begins (drop i words) (drop i strip)
-      agrees e =
-          rw (add-one i, drop-cons words i 0 more, drop-cons strip i 0 there, eq-eqb (get_or words i 0) (get_or strip i 0) (sym e))
-          refl
-
-  pub all-agree : length words ≤ i → begins (drop i words) (drop i strip) ≡ true
-  all-agree l = rw (drop_of_length-le words l) refl
+pub put-strip : (page strip : List ℕ) (at : ℕ) → at + length strip ≤ length page
+    → paste page at strip (length strip) ≡ sets page at strip
+put-strip page strip at room =
+    paste_all page at strip (length strip) refl
+    ∙ sym (append_assoc (take at page) strip (drop (at + length strip) page))
+    ∙ sym (sets-eq strip page at room)
 
 -- ---- a line exchanged for a strip
 module _ (page : List ℕ) (line lines : ℕ) (strip : List ℕ) (e : Exchanges page line lines strip) where

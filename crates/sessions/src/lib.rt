@@ -69,7 +69,7 @@ pub fn open(shape: u32, class: u32, page: &mut [u64]) -> Handed
         return unopened(6);
     }
     if pair.degree == 0 {
-        clearing::words(page, 0);
+        clearing::clear(page, 0);
         return Handed {
             refused: 0,
             slip: Slip {
@@ -85,7 +85,7 @@ pub fn open(shape: u32, class: u32, page: &mut [u64]) -> Handed
     if page.len() == 0 {
         return unopened(10);
     }
-    clearing::words(page, 0);
+    clearing::clear(page, 0);
     page[0] = linewords::word(false, good, class);
     Handed {
         refused: 0,

@@ -9,12 +9,8 @@ fn take_out(page: &mut [u64], line: usize, lines: usize)
     requires { (line < lines) × (lines ≤ length page.old) }
     ensures { page.new ≡ taken_out page.old line lines }
 {
-    let mut i = line;
-    while i + 1 < lines {
-        page[i] = page[i + 1];
-        i += 1;
-    }
-    page[i] = 0;
+    page.copy_within(line + 1..lines, line);
+    page[lines - 1] = 0;
 }
 
 // A strip of lines is put at a place that has room for them.
@@ -22,28 +18,14 @@ pub fn write_strip(page: &mut [u64], at: usize, strip: &[u64])
     requires { at + length strip.now ≤ length page.old }
     ensures { page.new ≡ sets page.old at strip.now }
 {
-    let mut i = 0;
-    while i < strip.len() {
-        page[at + i] = strip[i];
-        i += 1;
-    }
+    page[at..at + strip.len()].copy_from_slice(strip);
 }
 
 // Whether a strip begins with these words.
 pub fn begins(strip: &[u64], words: &[u64]) -> bool
     ensures { result ≡ same words.now (take (length words.now) strip.now) }
 {
-    let mut i = 0;
-    while i < words.len() {
-        if strip.len() <= i {
-            return false; // it ends before them
-        }
-        if strip[i] != words[i] {
-            return false;
-        }
-        i += 1;
-    }
-    true
+    strip.starts_with(words)
 }
 
 // A line of a page whose other words are 0 is taken out, and a strip of lines is put at the end of the others.

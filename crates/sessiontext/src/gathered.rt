@@ -163,8 +163,8 @@ pub fn load(text: &[u8], page: &mut [u64], coefficients: &mut [i64]) -> Loaded
         return unloaded(7, 0);
     }
     put(text, start, page, coefficients);
-    clearing::words(page, slip.lines);
-    clearing::coefficients(coefficients, slip.lines);
+    clearing::clear(page, slip.lines);
+    clearing::clear(coefficients, slip.lines);
     Loaded {
         refused: 0,
         line: 0,

@@ -110,7 +110,7 @@ pub fn load(text: &[u8], page: &mut [u64]) -> Loaded
         return unloaded(7, 0);
     }
     waiting::put(text, start, page);
-    clearing::words(page, slip.lines);
+    clearing::clear(page, slip.lines);
     Loaded {
         refused: 0,
         line: 0,

@@ -6,6 +6,7 @@ pub mod Readings
 pub mod Factorials
 pub mod PartLists
 pub mod Columns
+pub mod PartsLeft
 pub mod ClassLoops
 pub mod ClassProducts
 pub mod ClassWriting

@@ -1,4 +1,5 @@
 -- What the calls on one partition promise.
 pub mod Answers
 pub mod Calls
+pub mod Parts
 pub mod Private

@@ -14,6 +14,7 @@ ghost use Rattle.words.specs.Private.Reading.{Measured, ListWithin};
 ghost use Rattle.words.specs.Calls.{class_word_from, class_parts_into, class_degree};
 ghost use Rattle.words.specs.Calls.{sign_of_class, size_of_class, PeriodOfClass};
 
+use super::parts::Parts;
 use super::{DEGREES, LIMIT, Measure, Refusal, lists, within};
 
 // n! of each degree.
@@ -44,11 +45,9 @@ fn bits(parts: &[u8]) -> u32
 {
     let mut left = 31u32;
     let mut bits = 0u32;
-    let mut i = 0;
-    while i < parts.len() {
-        left -= parts[i] as u32;
+    for part in parts {
+        left -= u32::from(*part);
         bits += 1u32 << left;
-        i += 1;
     }
     bits
 }
@@ -72,27 +71,21 @@ fn last_one(word: u32) -> u32
     31 - u32::trailing_zeros(word)
 }
 
-// The one reader of class words: leading zeros give the next part, again and again.
+// The one reader of class words.
 fn read(word: u32) -> Result<Measure, Refusal>
     ensures { Measured (class_checks degree_limit word) (class_of word) result }
 {
     if 0x8000_0000 <= word {
         return Err(Refusal::BadClass);
     }
-    let mut rest = word;
-    let mut at = 0u32;
     let mut last = 31u32;
     let mut count = 0u32;
-    while rest != 0 {
-        let one = u32::leading_zeros(rest);
-        let part = one - at;
+    for part in Parts::of(word) {
         if last < part {
             return Err(Refusal::BadClass);
         }
         last = part;
         count += 1;
-        at = one;
-        rest -= 1u32 << (31 - one);
     }
     let degree = last_one(word);
     if LIMIT < degree {
@@ -106,16 +99,8 @@ fn write_parts(word: u32, column: &mut [u8])
     requires { (word < 2 ^ 31) × (length (class_of word) ≤ length column.old) }
     ensures { column.new ≡ at_front (class_of word) column.old }
 {
-    let mut rest = word;
-    let mut at = 0u32;
-    let mut i = 0;
-    while rest != 0 {
-        let one = u32::leading_zeros(rest);
-        let part = one - at;
+    for (i, part) in Parts::of(word).enumerate() {
         column[i] = part as u8;
-        i += 1;
-        at = one;
-        rest -= 1u32 << (31 - one);
     }
 }
 
@@ -153,14 +138,10 @@ fn divisor(word: u32) -> u64
     requires { WithinClass largest_limit word }
     ensures { result ≡ class_divisor (class_of word) }
 {
-    let mut rest = word;
-    let mut at = 0u32;
     let mut last = 0u32;
     let mut times = 0u32;
     let mut product = 1u64;
-    while rest != 0 {
-        let one = u32::leading_zeros(rest);
-        let part = one - at;
+    for part in Parts::of(word) {
         if part == last {
             times += 1;
         } else {
@@ -168,8 +149,6 @@ fn divisor(word: u32) -> u64
         }
         product *= (part * times) as u64;
         last = part;
-        at = one;
-        rest -= 1u32 << (31 - one);
     }
     product
 }
@@ -188,11 +167,12 @@ fn multiplier(number: u64, part: u64) -> u64
     requires { (0 < part) × (number * part < 2 ^ 63) }
     ensures { result ≡ multiplierOf number part }
 {
-    let mut by = 1u64;
-    while number * by % part != 0 {
-        by += 1;
+    for by in 1..part {
+        if number * by % part == 0 {
+            return by;
+        }
     }
-    by
+    part
 }
 
 // The least positive number that every part of a class divides: what has been reached is multiplied by as little as
@@ -201,19 +181,13 @@ fn least_multiple(word: u32) -> u64
     requires { WithinClass largest_limit word }
     ensures { result ≡ period_from 1 (class_of word) }
 {
-    let mut rest = word;
-    let mut at = 0u32;
     let mut last = 0u32;
     let mut multiple = 1u64;
-    while rest != 0 {
-        let one = u32::leading_zeros(rest);
-        let part = one - at;
+    for part in Parts::of(word) {
         if part != last {
             multiple *= multiplier(multiple, part as u64);
         }
         last = part;
-        at = one;
-        rest -= 1u32 << (31 - one);
     }
     multiple
 }

@@ -8,6 +8,7 @@ ghost use Rattle.words.specs.declared.refusal.Refusal.TheVariants.{ColumnTooShor
 
 pub mod classes;
 mod lists;
+pub mod parts;
 pub mod refusal;
 pub mod shapes;
 

@@ -13,23 +13,20 @@ use super::{LIMIT, Refusal};
 pub fn part_at(parts: &[u8], i: usize) -> u32
     ensures { result ≡ get_or parts.now i 0 }
 {
-    if i < parts.len() { parts[i] as u32 } else { 0 }
+    parts.get(i).copied().map_or(0, u32::from)
 }
 
 // Whether no part is 0 and none is above the one before it.
 pub fn is_partition(parts: &[u8]) -> bool
     ensures { result ≡ is_partition parts.now }
 {
-    let mut i = 0;
-    while i < parts.len() {
-        let part = part_at(parts, i);
-        if part == 0 {
+    for (i, part) in parts.iter().enumerate() {
+        if *part == 0 {
             return false;
         }
-        if part < part_at(parts, i + 1) {
+        if u32::from(*part) < part_at(parts, i + 1) {
             return false;
         }
-        i += 1;
     }
     true
 }
@@ -39,13 +36,11 @@ pub fn capped_degree(parts: &[u8]) -> u32
     ensures { result ≡ min (degree parts.now) (suc degree_limit) }
 {
     let mut degree = 0u32;
-    let mut i = 0;
-    while i < parts.len() {
-        degree += parts[i] as u32;
+    for part in parts {
+        degree += u32::from(*part);
         if LIMIT < degree {
             return LIMIT + 1;
         }
-        i += 1;
     }
     degree
 }

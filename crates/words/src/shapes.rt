@@ -11,6 +11,7 @@ ghost use Rattle.words.specs.Private.Reading.{Measured, ListWithin};
 ghost use Rattle.words.specs.Calls.{shape_word_from, shape_reading, good_shape_word, shape_parts_into, shape_degree};
 ghost use Rattle.words.specs.Calls.{conjugate_shape};
 
+use super::parts::Parts;
 use super::{Good, LIMIT, Measure, Refusal, Shape, lists, within};
 
 // The shape word of a partition within the limit.
@@ -20,13 +21,11 @@ fn bits(parts: &[u8]) -> u32
 {
     let mut left = 31u32;
     let mut bits = 0u32;
-    let mut i = 0;
-    while i < parts.len() {
-        let more = lists::part_at(parts, i) - lists::part_at(parts, i + 1);
+    for (i, part) in parts.iter().enumerate() {
+        let more = u32::from(*part) - lists::part_at(parts, i + 1);
         let top = left - 1;
         left = top - more;
         bits += (1u32 << top) - (1u32 << left);
-        i += 1;
     }
     bits
 }
@@ -44,16 +43,11 @@ fn pairs(word: u32) -> u32
     requires { word < 2 ^ 31 }
     ensures { result ≡ degree (shape_of word) }
 {
-    let mut rest = word;
-    let mut at = 0u32;
     let mut zeros = 0u32;
     let mut pairs = 0u32;
-    while rest != 0 {
-        let one = u32::leading_zeros(rest);
-        zeros += one - at - 1;
+    for part in Parts::of(word) {
+        zeros += part - 1;
         pairs += zeros;
-        at = one;
-        rest -= 1u32 << (31 - one);
     }
     pairs
 }
@@ -125,18 +119,13 @@ fn write_rows(word: u32, column: &mut [u8])
     requires { (word < 2 ^ 31) × (length (shape_of word) ≤ length column.old) }
     ensures { column.new ≡ at_front (shape_of word) column.old }
 {
-    let mut left = 31u32;
-    let mut rest = word;
     let mut length = u32::count_ones(word);
     let mut i = 0;
-    while rest != 0 {
-        left -= 1;
-        let one = 1u32 << left;
-        if rest < one {
+    for left in (u32::trailing_zeros(word)..31).rev() {
+        if (word >> left) % 2 == 0 {
             column[i] = length as u8;
             i += 1;
         } else {
-            rest -= one;
             length -= 1;
         }
     }
@@ -169,12 +158,10 @@ fn flipped(word: u32) -> u32
     }
     let after = u32::trailing_zeros(word);
     let mut rest = word >> after;
-    let mut left = 31u32;
     let mut out = 0u32;
-    while after < left {
-        left -= 1;
+    for left in (after..31).rev() {
         out += (1 - rest % 2) << left;
-        rest = rest / 2;
+        rest /= 2;
     }
     out
 }

@@ -36,8 +36,8 @@ unopened-requires-2 c κs = search rules
 returns-2 : tie.Need-returns-then-page-gt-PAGE_LIMIT
 returns-2 c = rw c.unopened-then-page-gt-PAGE_LIMIT.ensures (page-refuses _ _ _ _ (pair c.before.before).none c.if-page-gt-PAGE_LIMIT.true)
 
-words-requires : tie.Need-words-requires
-words-requires c κs = search rules
+clear-requires : tie.Need-clear-requires
+clear-requires c κs = search rules
 
 same_length : tie.Need-shape_of-page-then-pair-eq0
 same_length c = search rules
@@ -47,7 +47,7 @@ returns-3 c =
     let then = c in
     let else2 = then in
     let p = pair else2.before.before.before.before.before.before.before in
-    rw (c.words.ensures, cleared-whole {A = ℕ} 0 _)
+    rw (c.clear.ensures, cleared-whole {A = ℕ} 0 _)
     (empty-opens _ _ _ _ p.none else2.if-page-gt-PAGE_LIMIT.false _ p.shape (sym p.degree ∙ then.if-pair-eq0.true))
 
 unopened-requires-3 : tie.Need-unopened-requires-then-page-eq0
@@ -62,8 +62,8 @@ returns-4 c =
     (room-refuses _ _ _ _ p.none else2.if-page-gt-PAGE_LIMIT.false (λ none. else3.if-pair-eq0.false (p.degree ∙ none))
     c.if-page-eq0.true)
 
-words-requires-2 : tie.Need-words-requires-2
-words-requires-2 c κs = search rules
+clear-requires-2 : tie.Need-clear-requires-2
+clear-requires-2 c κs = search rules
 
 word-requires : tie.Need-word-requires
 word-requires c κs = search rules
@@ -82,7 +82,7 @@ returns-5 c =
     let p = pair else2.before.before.before.before.before.before.before.before.before in
     let w : ℕ = else2.common_degree-pair.result.shape in
     let plus : w % 2 ^ 31 ≡ w = omega (arith, p.words.shape.good.below) in
-    rw (c.words-2.ensures, cleared-whole {A = ℕ} 0 _, c.word.ensures, plus)
+    rw (c.clear-2.ensures, cleared-whole {A = ℕ} 0 _, c.word.ensures, plus)
     (line-opens _ _ _ _ p.none else2.if-page-gt-PAGE_LIMIT.false (λ none. else3.if-pair-eq0.false (p.degree ∙ none)) w p.shape
     else4.if-page-eq0.false)
 
@@ -95,12 +95,12 @@ open_spec =
     returns
     unopened-requires-2
     returns-2
-    words-requires
+    clear-requires
     same_length
     returns-3
     unopened-requires-3
     returns-4
-    words-requires-2
+    clear-requires-2
     word-requires
     slice-write-page
     same-length-2

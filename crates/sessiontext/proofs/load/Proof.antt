@@ -156,8 +156,8 @@ put-requires c κs =
     let e = r in
     ((read_head (front e.before.before.before.before.before)).fits, (all-formed e.before.before.before.before.before, rw (follows (front e.before.before.before.before.before)) at r.if-page-slip.false))
 
-words-requires : tie.Need-words-requires
-words-requires c κs = search rules
+clear-requires : tie.Need-clear-requires
+clear-requires c κs = search rules
 
 same_length : tie.Need-shape_of-page
 same_length c = search rules
@@ -176,7 +176,7 @@ returns-6 c =
     (passes a.page.now (front e.before.before.before.before.before.before.before.before.before.before.before.before).if-page-gt-PAGE_LIMIT.false) (good e.before.before.before.before.before.before.before.before.before.before.before.before) room (enough e.before.before.before.before.before.before.before.before.before.before.before.before)
     (not-false _ t.if-not-read.false)
     (lines-put a.text.now a.page.now p.put.ensures (read_head (front e.before.before.before.before.before.before.before.before.before.before.before.before)).rest (its-count (front e.before.before.before.before.before.before.before.before.before.before.before.before))
-    k.words.ensures room))
+    k.clear.ensures room))
 
 pub load_spec : {M : Type 1} → statement M
 load_spec =
@@ -196,6 +196,6 @@ load_spec =
     unloaded-requires-5
     returns-5
     put-requires
-    words-requires
+    clear-requires
     same_length
     returns-6)

@@ -8,8 +8,8 @@ use Rattle.gathered.proofs.Filled.{one_line}
 use Rattle.gathered.proofs.columns.begin.Statement.{statement}
 use Rattle.gathered.proofs.columns.begin.Tie as tie
 
-coefficients-requires : tie.Need-coefficients-requires
-coefficients-requires c κs = search rules
+clear-requires : tie.Need-clear-requires
+clear-requires c κs = search rules
 
 slice-set-of-column : tie.Need-slice_set_of-column
 slice-set-of-column c = search rules
@@ -20,7 +20,7 @@ same_length c = search rules
 returns : tie.Need-returns-then-lines-eq1
 returns c =
     let start = c in
-    rw (c.coefficients.ensures, cleared-whole (pos 0) _, c.if-lines-eq1.true)
+    rw (c.clear.ensures, cleared-whole (pos 0) _, c.if-lines-eq1.true)
     (one_line (length start.args.column.now) (omega (arith, start.requires.1, c.if-lines-eq1.true)))
 
 same-length-2 : tie.Need-shape_of-column-else-lines-eq1
@@ -30,9 +30,9 @@ returns-2 : tie.Need-returns-else-lines-eq1
 returns-2 c =
     let start = c in
     let none : start.args.lines ≡ 0 = omega (arith, start.requires.0, c.if-lines-eq1.false) in
-    rw (c.coefficients.ensures, none) refl
+    rw (c.clear.ensures, none) refl
 
 pub begin_spec : {M : Type 1} → statement M
 begin_spec =
     tie.close
-    (tie.spec coefficients-requires slice-set-of-column same_length returns same-length-2 returns-2)
+    (tie.spec clear-requires slice-set-of-column same_length returns same-length-2 returns-2)

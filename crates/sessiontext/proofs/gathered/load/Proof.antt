@@ -212,11 +212,11 @@ put-requires c κs =
     let b = begin (head_read e.before.before.before.before) in
     ((taken e.before.before.before.before).fits, ((taken e.before.before.before.before).formed, (omega (arith, (taken e.before.before.before.before).count, room e.before.before.before.before), alike b)))
 
-words-requires : tie.Need-words-requires
-words-requires c κs = search rules
+clear-requires : tie.Need-clear-requires
+clear-requires c κs = search rules
 
-coefficients-requires : tie.Need-coefficients-requires
-coefficients-requires c κs = search rules
+clear-requires-2 : tie.Need-clear-requires-2
+clear-requires-2 c κs = search rules
 
 same_length : tie.Need-shape_of-page
 same_length c = search rules
@@ -238,8 +238,8 @@ returns-7 c =
     (loads gathered-faithful (text b) (lent b) (passes b) (good (lines-read e.before.before.before.before.before.before.before.before.before.before.before.before.before.before.before)) (its-room e.before.before.before.before.before.before.before.before.before.before.before.before.before.before.before) (sound-is s.before.before.before.before.before.before.before.before.before.before.before.before.before.before)
     (not-false _ i.if-not-sound.false-raw)
     (rw (its-lines h) at
-    (put-down (read h).slip _ (taken e.before.before.before.before.before.before.before.before.before.before.before.before.before.before.before).count (room e.before.before.before.before.before.before.before.before.before.before.before.before.before.before.before) (alike b) p.put.ensures k1.words.ensures
-    k2.coefficients.ensures)))
+    (put-down (read h).slip _ (taken e.before.before.before.before.before.before.before.before.before.before.before.before.before.before.before).count (room e.before.before.before.before.before.before.before.before.before.before.before.before.before.before.before) (alike b) p.put.ensures k1.clear.ensures
+    k2.clear-2.ensures)))
 
 pub load_spec : {M : Type 1} → statement M
 load_spec =
@@ -261,8 +261,8 @@ load_spec =
     unloaded-requires-6
     returns-6
     put-requires
-    words-requires
-    coefficients-requires
+    clear-requires
+    clear-requires-2
     same_length
     same-length-2
     returns-7)

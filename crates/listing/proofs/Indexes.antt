@@ -33,8 +33,8 @@ words-counted = refl
 pub section-told-once : {r s : Result Span Refusal} → section_told r ≡ section_told s → r ≡ s
 section-told-once {r} {s} =
     told-once (λ k (s : Span). section_answer k s.start s.count) (record { start = 0; count = 0 })
-    (λ (a : SectionAnswer). a.refused) (λ (a : SectionAnswer). record { start = a.start; count = a.count }) (λ k x. refl)
-    (λ k x. refl) r s
+    (λ (a : SectionAnswer). a.refused) (λ (a : SectionAnswer). record { start = a.start; count = a.count })
+    (λ k x. refl) (λ k x. refl) r s
 
 module _ (limit n : ℕ) (r : SectionAnswer) (e : r ≡ section_of limit n) where
   pub section-number : r.refused ≡ first_of (no-12 limit n ∷ [])

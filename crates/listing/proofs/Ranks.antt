@@ -176,5 +176,6 @@ module _ (limit : ℕ) (fits : limit ≤ largest_limit) (w : ℕ) where
       class-ranked shape e a f =
           let p = class-partition none in
           let l = (within-class limit w none).small in
-          f ∙ ap (λ (x : WordAnswer). shape_rank limit x.word) (shape-of-class e) ∙ shape-rank-given limit fits (class_of w) p l
+          f ∙ ap (λ (x : WordAnswer). shape_rank limit x.word) (shape-of-class e)
+          ∙ shape-rank-given limit fits (class_of w) p l
           ∙ number-given (class_checks limit w) (pos (rank (class_of w))) (pos (rank (class_of w))) none refl

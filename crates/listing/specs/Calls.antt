@@ -1,7 +1,7 @@
 -- What the calls of the listing promise (document 01, "Listing", "Order").
 -- Each has the name of what it gives; `_at` is of a degree n and a rank r. The limit on degrees comes first.
 --   words_within limit     the words of all shapes within the limit, degree by degree, each degree in listing order
---   section_told r         what is told of a call that gives r: the section, or the number of the refusal beside 0 and 0
+--   section_told r         what is told of a call that gives r: the section, or the refusal's number beside 0 and 0
 --   section_of limit n     where the words of degree n start among them, and how many they are
 --   rank_checks limit n r  the checks of a degree n and a rank r
 use Rattle.std.specs.Prelude.{◌∷◌}

@@ -10,7 +10,8 @@ ghost use Rattle.theory.specs.Listing.{rank as rank_of};
 ghost use Rattle.theory.specs.Limits.{degree_limit};
 ghost use Rattle.theory.specs.Refusals.Laws.{Within};
 ghost use Rattle.words.specs.Answers.{word_told, number_told};
-ghost use Rattle.listing.specs.Calls.{words_within, section_told, section_of, shape_at, class_at, shape_rank, class_rank};
+ghost use Rattle.listing.specs.Calls.{words_within, section_told, section_of, shape_at, class_at};
+ghost use Rattle.listing.specs.Calls.{shape_rank, class_rank};
 ghost use Rattle.listing.specs.Private.Tables.{shape_words};
 
 use tables::{COUNTS, STARTS, WORDS};

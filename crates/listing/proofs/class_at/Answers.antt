@@ -23,12 +23,14 @@ unwrap-count-requires c =
 pub slice_bounds-parts-end-2 : goal.slice_bounds-parts-end-2
 slice_bounds-parts-end-2 c =
     let parts = rw c.unwrap-count.ensures at c.parts.ensures in
-    (parts-of-rank degree_limit _ _ _ c.in_ok-shape.ensures (omega arith) refl _ _ parts).inside
+    let written = parts-of-rank degree_limit _ _ _ c.in_ok-shape.ensures (omega arith) refl _ _ parts in
+    written.inside
 
 pub slice_bounds-word-end : goal.slice_bounds-word-end
 slice_bounds-word-end c =
     let parts = rw c.unwrap-count.ensures at c.parts.ensures in
-    sym (length-take-le _ _ (parts-of-rank degree_limit _ _ _ c.in_ok-shape.ensures (omega arith) refl _ _ parts).inside)
+    let written = parts-of-rank degree_limit _ _ _ c.in_ok-shape.ensures (omega arith) refl _ _ parts in
+    sym (length-take-le _ _ written.inside)
 
 pub returns : goal.returns
 returns c =

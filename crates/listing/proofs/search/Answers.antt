@@ -13,7 +13,8 @@ use Rattle.listing.proofs.Indexes.{words-counted, section-given, section-found, 
 use Rattle.listing.proofs.search.Goals as goal
 
 -- an index that is not behind the word, and what is read there
-module _ {w i from : ℕ} (h : Within degree_limit w) (known : (from ≡ start (degree (shape_of w))) × (i ≤ rank (shape_of w))) where
+module _ {w i from : ℕ} (h : Within degree_limit w)
+    (known : (from ≡ start (degree (shape_of w))) × (i ≤ rank (shape_of w))) where
   inside : from + i < word_count
   inside = omega (arith, rank-inside degree_limit w i h known.1, known.0, words-counted)
 

@@ -1,5 +1,6 @@
 // What comes of a line that is struck, found without the library: in words of 32 bits, of which bit 30 is digit 1.
 use super::drawing::{PAGE, Strike};
+use super::parts::front;
 use pages::Slip;
 
 // What must come of a strike: why it is refused (0: it is not), how many new lines there are, and their words.
@@ -7,7 +8,13 @@ use pages::Slip;
 pub struct New {
     pub refused: u8,
     pub count: usize,
-    pub lines: [u64; PAGE],
+    words: [u64; PAGE],
+}
+
+impl New {
+    pub fn lines(&self) -> &[u64] {
+        front(&self.words, self.count)
+    }
 }
 
 // The sign digit: a word that is no class.
@@ -43,19 +50,21 @@ fn hook(word: u64, class: u64, zero: u64, length: u64) -> u64 {
 
 // The new lines of a line, in hook order. Where no class is left every hook leaves the empty shape, and there are none.
 fn new_lines(word: u64, class: u64, length: u64) -> New {
-    let mut lines = [0u64; PAGE];
-    let mut count = 0;
-    let mut digit = 1u64;
-    while digit < 32 {
-        let line = hook(word, class, SIGN >> digit, length);
-        lines[count % PAGE] = line;
-        count = std::num::wrapping_add_usize(count, ((line != 0) & (class != 0)) as usize);
-        digit += 1;
+    let mut words = [0; PAGE];
+    let mut count = 0usize;
+    if class != 0 {
+        let lines = (1..32)
+            .map(|digit| hook(word, class, SIGN >> digit, length))
+            .filter(|line| *line != 0);
+        for (place, line) in words.iter_mut().zip(lines) {
+            *place = line;
+            count = count.wrapping_add(1);
+        }
     }
     New {
         refused: 0,
         count,
-        lines,
+        words,
     }
 }
 
@@ -63,7 +72,7 @@ fn refused(number: u8) -> New {
     New {
         refused: number,
         count: 0,
-        lines: [0u64; PAGE],
+        words: [0; PAGE],
     }
 }
 

@@ -5,16 +5,12 @@ use std::io;
 pub const REFUSALS: usize = 20;
 
 // How many calls there were of each number from 0 to 31.
-#[derive(Clone, Copy)]
+#[derive(Clone, Copy, Default)]
 pub struct Row {
     counts: [u64; 32],
 }
 
 impl Row {
-    pub fn new() -> Row {
-        Row { counts: [0; 32] }
-    }
-
     // One call more.
     pub fn add(&mut self, number: usize) {
         if let Some(count) = self.counts.get_mut(number) {

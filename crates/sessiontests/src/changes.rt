@@ -7,7 +7,7 @@ use text::writing;
 
 // How many texts were accepted, and how many each number refused, by the change; and how many of these answers were
 // right, how many wrong.
-#[derive(Clone, Copy)]
+#[derive(Clone, Copy, Default)]
 pub struct Changes {
     changed: Row,
     dropped: Row,
@@ -50,16 +50,6 @@ fn cut(text: &[u8], place: usize, lines: usize) -> Judged {
 }
 
 impl Changes {
-    pub fn new() -> Changes {
-        Changes {
-            changed: Row::new(),
-            dropped: Row::new(),
-            doubled: Row::new(),
-            cut: Row::new(),
-            wrong: Row::new(),
-        }
-    }
-
     // All changes at a place, where this byte stands. It is changed to signs, the other marks of a text, digits, and
     // what no text has.
     fn at(&mut self, text: &[u8], place: usize, byte: u8, lines: usize) {

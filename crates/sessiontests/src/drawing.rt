@@ -25,7 +25,7 @@ pub fn below(word: u64, bound: usize) -> u32 {
 
 // A number in which now and then one bit is turned, so that it is wrong.
 fn turned(number: u32, word: u64) -> u32 {
-    number ^ (((word % 16 == 0) as u32) << ((word / 16) % 32))
+    number ^ (u32::from(word % 16 == 0) << ((word / 16) % 32))
 }
 
 // The words of an opening, a shape's and a class's. A bit is turned now and then.
@@ -80,6 +80,6 @@ pub fn drawn(slip: Slip, word: u64, page: &[u64; PAGE]) -> Strike {
     Strike {
         slip,
         line,
-        cycle: turned(u64::leading_zeros(class), word >> 40) as u64,
+        cycle: u64::from(turned(class.leading_zeros(), word >> 40)),
     }
 }

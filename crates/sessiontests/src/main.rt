@@ -31,7 +31,7 @@ use testing::{Tally, print};
 // Texts with one byte changed, dropped or doubled, and cut short: how many were accepted, and how many each number from
 // 1 to 19 refused; and how many of these answers were right, how many wrong.
 fn print_changes(rt: &impl Print) -> io::Result<()> {
-    let mut changes = Changes::new();
+    let mut changes = Changes::default();
     changes.all(
         b"degree=5\nshape=3,2\nclass=3,2\nsteps=1\nsettled=0\nlines=1\nline=-;1,1;2\n",
         1,

@@ -12,7 +12,7 @@ use std::io;
 const CALLS: u32 = 10000;
 
 // How many calls of each kind were accepted, and how many each number refused; and calls by what was wrong.
-#[derive(Clone, Copy)]
+#[derive(Clone, Copy, Default)]
 pub struct Board {
     pub openings: Row,
     pub previews: Row,
@@ -24,18 +24,6 @@ pub struct Board {
 }
 
 impl Board {
-    fn new() -> Board {
-        Board {
-            openings: Row::new(),
-            previews: Row::new(),
-            commits: Row::new(),
-            saves: Row::new(),
-            loads: Row::new(),
-            elsewhere: Row::new(),
-            wrong: Row::new(),
-        }
-    }
-
     pub fn print_all(&self, rt: &impl Print) -> io::Result<()> {
         let name = b"openings, 0 for accepted:";
         self.openings.print(rt, name, REFUSALS)?;
@@ -86,7 +74,7 @@ impl Run {
                 shown: watches(slip, &page),
                 length,
             },
-            board: Board::new(),
+            board: Board::default(),
         }
     }
 

@@ -33,7 +33,7 @@ pub fn just_fits(slip: Slip, page: &[u64], text: &[u8]) -> bool {
         & stays
         & (full.refused == 0)
         & (full.count == length)
-        & bytes.strip_prefix(text).is_some_and(|rest| marked(rest))
+        & bytes.strip_prefix(text).is_some_and(marked)
 }
 
 // What became of a text that was loaded, and whether that is as promised.
@@ -52,8 +52,8 @@ impl Judged {
     }
 }
 
-// Loads a text. What is accepted is the text that saving gives again; a refusal leaves the page as
-// it was and the slip blank, and names a line where it is 16.
+// Loads a text. What is accepted is the text that saving gives again; a refusal leaves the page as it was and the slip
+// blank, and names a line where it is 16.
 pub fn judge(text: &[u8]) -> Judged {
     let mut page = [WORD; PAGE];
     let loaded = sessiontext::load(text, &mut page);

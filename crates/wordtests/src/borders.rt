@@ -19,25 +19,29 @@ fn parts_refused(kind: Kind, word: u32, refused: u8) -> bool {
     (empty.refused == first) & (read.refused == refused) & (stays == (refused != 0))
 }
 
-fn as_shape(t: Tally, word: u32, refused: u8, degree: i64) -> Tally {
-    let told = words::shapes::degree(word);
-    let turned = words::shapes::conjugate(word);
+// A word as a kind: the number that refuses it and 0, or 0 and its degree; and its parts.
+fn as_kind(t: Tally, kind: Kind, word: u32, refused: u8, degree: i64) -> Tally {
+    let told = kind.degree(word);
     t.add((told.refused == refused) & (told.number == degree))
-        .add(parts_refused(Kind::Shape, word, refused))
-        .add((turned.refused == refused) & ((refused == 0) | (turned.word == 0)))
+        .add(parts_refused(kind, word, refused))
+}
+
+fn as_shape(t: Tally, word: u32, refused: u8, degree: i64) -> Tally {
+    let turned = words::shapes::conjugate(word);
+    as_kind(t, Kind::Shape, word, refused, degree).add(
+        (turned.refused == refused) & ((refused == 0) | (turned.word == 0)),
+    )
 }
 
 fn as_class(t: Tally, word: u32, refused: u8, degree: i64) -> Tally {
-    let told = words::classes::degree(word);
-    t.add((told.refused == refused) & (told.number == degree))
-        .add(parts_refused(Kind::Class, word, refused))
+    as_kind(t, Kind::Class, word, refused, degree)
         .add(number_refused(words::classes::sign(word), refused))
         .add(number_refused(words::classes::size(word), refused))
         .add(number_refused(words::classes::period(word), refused))
 }
 
-// E4 is the fourth, E6 the sixth and the eighth. As a shape and as a class each is refused by a number, with 0; or, by 0,
-// has a degree.
+// Words as shapes and as classes, each with the number that refuses it, or 0, and its degree. E4 is the fourth, E6 the
+// sixth and the eighth.
 pub fn words() -> Tally {
     let mut t = Tally::new();
     for (word, shape, n, class, m) in [
@@ -56,8 +60,8 @@ pub fn words() -> Tally {
     t
 }
 
-// The good word of a word and the ones dropped in front; or the number that refuses it, and 0 and 0. E4 is the first and
-// the sixth. The seventh is a row of 17 with a one in front.
+// The good word of a word and the ones dropped in front; or the number that refuses it, and 0 and 0. E4 is the first
+// and the sixth. The seventh is a row of 17 with a one in front.
 pub fn ones_in_front() -> Tally {
     let mut t = Tally::new();
     for (word, refused, left, dropped) in [

@@ -8,7 +8,7 @@ pub enum Kind {
 }
 
 impl Kind {
-    fn degree(self, word: u32) -> NumberAnswer {
+    pub fn degree(self, word: u32) -> NumberAnswer {
         match self {
             Kind::Shape => words::shapes::degree(word),
             Kind::Class => words::classes::degree(word),

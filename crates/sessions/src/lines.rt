@@ -26,18 +26,17 @@ pub fn strike(class: u32, cycle: u64) -> WithoutCycle
     requires { class < 2 ^ 31 }
     ensures { result ≡ class_without cycle class }
 {
-    let mut rest = class;
     let mut left = 31u32;
     for part in Parts::of(class) {
-        left -= part;
-        let behind = rest - (1u32 << left);
+        let behind = left - part;
         if part as u64 == cycle {
+            let moved = (class % (1u32 << behind)) << part;
             return WithoutCycle {
                 found: true,
-                class: class - rest + (behind << part),
+                class: class - class % (1u32 << left) + moved,
             };
         }
-        rest = behind;
+        left = behind;
     }
     WithoutCycle {
         found: false,

@@ -5,7 +5,6 @@ ghost use Rattle.theory.specs.Basics.{length, drop, ◌≤?◌};
 ghost use Rattle.theory.specs.Limits.{degree_limit, page_limit};
 ghost use Rattle.words.specs.Answers.{Outcome};
 ghost use Rattle.textreading.specs.Reading.{lines_of};
-ghost use Rattle.pages.specs.Page.{slip_of};
 ghost use Rattle.pages.specs.Mode.{alongside, gathered_mode};
 ghost use Rattle.pages.specs.Sound.{sound_with};
 ghost use Rattle.sessiontext.specs.SessionText.{gathered_form, session_text_by};
@@ -15,7 +14,7 @@ ghost use Rattle.sessiontext.specs.Calls.{save_by, load_by};
 ghost use Rattle.sessiontext.specs.Private.Weighted.{ReadFronted, AllFormed, read_as};
 
 use super::coefficients::{first_fault, put};
-use super::reading::HeadRead;
+use super::reading::FirstLines;
 use super::{Loaded, reading, unloaded, weighted};
 use pages::{GATHERED, PAGE_LIMIT, Slip, gathering};
 use words::CountAnswer;
@@ -65,46 +64,24 @@ pub fn save(slip: Slip, page: &[u64], coefficients: &[i64], text: &mut [u8]) -> 
     }
 }
 
-// A slip of the gathered mode.
-fn in_mode(slip: Slip) -> Slip
-    ensures { result ≡ slip_of slip.shape slip.class slip.settled slip.lines slip.steps 1 }
-{
-    Slip {
-        shape: slip.shape,
-        class: slip.class,
-        settled: slip.settled,
-        lines: slip.lines,
-        steps: slip.steps,
-        mode: GATHERED,
-    }
-}
-
-// The first seven lines: which of them is at fault, and the slip, and where they end. The six behind the mode's are
-// read as those of a plain session.
-fn head(text: &[u8]) -> HeadRead
+// The first seven lines, or the first of them that is at fault. The six behind the mode's are read as those of a plain
+// session.
+fn head(text: &[u8]) -> Result<FirstLines, usize>
     ensures { ReadFronted text.now result }
 {
     let front = textreading::line_end(text, 0);
-    let plain = reading::head(&text[front..]);
-    let slip = in_mode(plain.slip);
     if !check::same(&text[..front], b"mode=gathered\n") {
-        return HeadRead {
-            fault: 1,
-            slip,
-            end: 0,
-        };
+        return Err(1);
     }
-    if plain.fault != 0 {
-        return HeadRead {
-            fault: plain.fault + 1,
-            slip,
-            end: 0,
-        };
-    }
-    HeadRead {
-        fault: 0,
-        slip,
-        end: front + plain.end,
+    match reading::head(&text[front..]) {
+        Ok(plain) => Ok(FirstLines {
+            slip: Slip {
+                mode: GATHERED,
+                ..plain.slip
+            },
+            end: front + plain.end,
+        }),
+        Err(line) => Err(line + 1),
     }
 }
 
@@ -114,7 +91,7 @@ fn sound_on(text: &[u8], start: usize, slip: Slip, page: &mut [u64], column: &mu
     requires lines_in_bounds { (slip.lines ≤ length page.old) × (length page.old ≡ length column.old) }
     ensures { result ≡ sound_with gathered_mode degree_limit slip (read_as (lines_of (drop start text.now))) }
 {
-    put(text, start, page, column);
+    put(&text[start..], page, column);
     let lines = slip.lines;
     gathering::refusal(slip, &page[..lines], &column[..lines]) == 0
 }
@@ -146,15 +123,14 @@ pub fn load(text: &[u8], page: &mut [u64], coefficients: &mut [i64]) -> Loaded
     if page.len() != coefficients.len() {
         return unloaded(21, 0);
     }
-    let head = head(text);
-    if head.fault != 0 {
-        return unloaded(16, head.fault);
-    }
+    let head = match head(text) {
+        Ok(head) => head,
+        Err(fault) => return unloaded(16, fault),
+    };
     let slip = head.slip;
     let start = head.end;
-    let fault = first_fault(text, start);
-    if fault != 0 {
-        return unloaded(16, fault);
+    if let Some(line) = first_fault(&text[start..]) {
+        return unloaded(16, line);
     }
     if page.len() < slip.lines {
         return unloaded(10, 0);
@@ -162,7 +138,7 @@ pub fn load(text: &[u8], page: &mut [u64], coefficients: &mut [i64]) -> Loaded
     if !sound(text, start, slip) {
         return unloaded(7, 0);
     }
-    put(text, start, page, coefficients);
+    put(&text[start..], page, coefficients);
     clearing::words(page, slip.lines);
     clearing::coefficients(coefficients, slip.lines);
     Loaded {

@@ -93,23 +93,23 @@ pub fn load(text: &[u8], page: &mut [u64]) -> Loaded
     if PAGE_LIMIT < page.len() {
         return unloaded(6, 0);
     }
-    let head = reading::head(text);
-    if head.fault != 0 {
-        return unloaded(16, head.fault);
-    }
+    let head = match reading::head(text) {
+        Ok(head) => head,
+        Err(fault) => return unloaded(16, fault),
+    };
     let slip = head.slip;
-    let start = head.end;
-    let read = waiting::judge(text, start, soundness::budget(slip));
-    if read.fault != 0 {
-        return unloaded(16, read.fault);
-    }
+    let lines = &text[head.end..];
+    let enough = match waiting::judge(lines, soundness::budget(slip)) {
+        Ok(enough) => enough,
+        Err(line) => return unloaded(16, line),
+    };
     if page.len() < slip.lines {
         return unloaded(10, 0);
     }
-    if !read.enough {
+    if !enough {
         return unloaded(7, 0);
     }
-    waiting::put(text, start, page);
+    waiting::put(lines, page);
     clearing::words(page, slip.lines);
     Loaded {
         refused: 0,

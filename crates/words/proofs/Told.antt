@@ -158,6 +158,10 @@ pub is-given : {A : Type 0} (r : Result A Refusal) → refusal_of r ≡ 0 → Is
 is-given (Ok x) z = refl
 is-given (Err e) z = absurd (refuses e z)
 
+pub ok-where : {A : Type 0} (r : Result A Refusal) → refusal_of r ≡ 0 → IsOk r
+ok-where (Ok x) z = refl
+ok-where (Err e) z = absurd (refuses e z)
+
 -- a test for one refusal
 module _ {A : Type 0} (one : A → A → Bool) (r : Result A Refusal) (e : Refusal) where
   pub is-refused : result_eq one eq-value.it r (Err e) ≡ true → refusal_of r ≡ number_of e

@@ -70,10 +70,8 @@ fn all(lines: &[u64], out: &mut [u8], at: usize) -> usize
         at out.old result out.new }
 {
     let mut end = at;
-    let mut i = 0;
-    while i < lines.len() {
-        end = line(lines[i], out, end);
-        i += 1;
+    for word in lines {
+        end = line(*word, out, end);
     }
     end
 }

@@ -63,15 +63,15 @@ module _ (name t : Text) where
 
 -- ---- the degree of a shape
 module _ (t : Text) (f : is_list degree_limit (ascii "shape=") t ≡ true) where
-  module _ {w : ℕ} (e : w ≡ shape_word (list_in t)) {r : Result ℕ Refusal}
-      (d : degree_told r ≡ shape_degree degree_limit w) where
-    its : InLimit degree_limit (list_in t)
-    its = (is-list degree_limit (ascii "shape=") t f).within
+  its : InLimit degree_limit (list_in t)
+  its = (is-list degree_limit (ascii "shape=") t f).within
 
+  module _ {w : ℕ} (e : w ≡ shape_word (list_in t)) (r : Result ℕ Refusal)
+      (d : degree_told r ≡ shape_degree degree_limit w) where
     pub degree-read : IsOk r
-    degree-read = degree-given (shape-within degree_limit (omega arith) its) {r = r} (rw e at d)
+    degree-read = degree-given (shape-within degree_limit (omega arith) its) r (rw e at d)
 
     pub degree-told : {n : ℕ} → r ≡ Ok n → n ≡ degree (list_in t)
     degree-told is =
-        shape-degree (shape-within degree_limit (omega arith) its) {r = r} (rw e at d) is
+        shape-degree (shape-within degree_limit (omega arith) its) r (rw e at d) is
         ∙ ap degree (shape-kept degree_limit (omega arith) its)

@@ -16,8 +16,12 @@ use Rattle.theory.proofs.Partition.Laws.{length-degree}
 use Rattle.theory.specs.Limits.{degree_limit}
 use Rattle.theory.specs.Refusals.{first_of}
 use Rattle.theory.proofs.Refusals.Laws.{none-applies}
-use Rattle.words.specs.Answers.{WordAnswer}
-use Rattle.words.specs.Answers.{worded}
+use Rattle.std.specs.Result.{result_ok}
+use Rattle.std.specs.declared.result.Result.{Result}
+use Rattle.std.specs.declared.result.Result.TheVariants.{Ok, Err}
+use Rattle.words.specs.declared.refusal.Refusal.{Refusal}
+use Rattle.words.specs.Answers.{WordAnswer, word_told, worded}
+use Rattle.words.proofs.Told.{refuses}
 use Rattle.words.specs.Private.Reading.{list_checks}
 use Rattle.words.proofs.Callers.{word-given-by}
 use Rattle.text.specs.Text.{Text}
@@ -56,17 +60,23 @@ module _ (large : ℕ) (some : 0 <? large ≡ true) (ps : Parts) where
 
 module _ (word_of : Parts → ℕ) (large : ℕ) (some : 0 <? large ≡ true) (ps : Parts) {a : WordAnswer}
     (e : a ≡ worded (list_checks degree_limit large ps) (word_of ps)) where
-  pub word-given : a.refused ≡ 0 → (in_limit degree_limit ps ≡ true) × (a.word ≡ word_of ps)
+  word-given : a.refused ≡ 0 → (in_limit degree_limit ps ≡ true) × (a.word ≡ word_of ps)
   word-given z =
       let given = word-given-by (list_checks degree_limit large ps) (word_of ps) a e z in
       (limit-in (pass-rows large some ps given.0), ap (λ (x : WordAnswer). x.word) given.1)
 
-  pub word-refused : (a.refused ≡ 0 → ⊥) → in_limit degree_limit ps ≡ false
+  word-refused : (a.refused ≡ 0 → ⊥) → in_limit degree_limit ps ≡ false
   word-refused n =
       same_test (in_limit degree_limit ps) false
       (λ f. let pass = rows_pass large some ps (in-limit degree_limit ps f) in
       absurd (n (ap (λ (x : WordAnswer). x.refused) e ∙ rw pass refl)))
       (λ b. absurd (false≢true b))
+
+pub word-told : (word_of : Parts → ℕ) (large : ℕ) (some : 0 <? large ≡ true) (ps : Parts) (r : Result ℕ Refusal)
+    → word_told r ≡ worded (list_checks degree_limit large ps) (word_of ps)
+    → Tells (in_limit degree_limit ps) (word_of ps) (result_ok r)
+word-told word_of large some ps (Ok w) e = word-given word_of large some ps e refl
+word-told word_of large some ps (Err d) e = word-refused word_of large some ps e (refuses d)
 
 -- ---- the numbers in a text
 abbrev pub told_parts : Text → Parts

@@ -1,6 +1,6 @@
 -- From what the calls on a word within the limit answer to its parts and its degree.
 use Rattle.std.specs.Prelude.{◌^◌}
-use mathlib.Core.Path.{◌≡◌, refl, ◌∙◌, ap}
+use mathlib.Core.Path.{◌≡◌, refl, sym, ◌∙◌, ap}
 use Prim.Native.Nat.{◌≤◌}
 use native.Mathlib.Omega.{arith}
 use mir.Facts.{to_z-of_z}
@@ -8,7 +8,7 @@ use mir.Syntax.{w64}
 use mir.Val.{SFits, to_z, of_z}
 use borrow.Author.Rules.{sfits_of}
 use borrow.Author.Tests.{ltb-true}
-use Rattle.theory.specs.Basics.{true, List, ℕ, ℤ, pos, negsuc, length, replicate}
+use Rattle.theory.specs.Basics.{true, List, ℕ, ℤ, pos, negsuc, nat_abs, length, replicate}
 use Rattle.theory.specs.Partition.{degree}
 use Rattle.theory.proofs.Partition.Laws.{length-degree}
 use Rattle.theory.specs.Digits.{digits, width}
@@ -33,7 +33,7 @@ module _ {w : ℕ} (s : Within degree_limit w) where
   shape-short : length (shape_of w) ≤ 16
   shape-short = omega (arith, s.small, length-degree (shape_of w) (rows-partition (digits width w)))
 
-  module _ {r : Result ℕ Refusal} {parts : List ℕ}
+  module _ (r : Result ℕ Refusal) {parts : List ℕ}
       (o : Outcome (shape_parts_into degree_limit w (replicate 16 0)) (count_told r) parts) where
     pub rows-given : IsOk r
     unfolding shape_parts_into
@@ -50,7 +50,7 @@ module _ {w : ℕ} (s : Within degree_limit w) where
         (front-given (shape_checks degree_limit w) 14 (shape_of w) (replicate 16 0) refl (λ z. shape-short) (count_told r) parts o
         (shape-passes s))
 
-  module _ {r : Result ℕ Refusal} (e : degree_told r ≡ shape_degree degree_limit w) where
+  module _ (r : Result ℕ Refusal) (e : degree_told r ≡ shape_degree degree_limit w) where
     told : degree_told r ≡ number_answer 0 (pos (degree (shape_of w)))
     unfolding shape_degree
     told = e ∙ rw (shape-passes s) refl
@@ -65,7 +65,7 @@ module _ {w : ℕ} (c : WithinClass degree_limit w) where
   class-short : length (class_of w) ≤ 16
   class-short = omega (arith, c.small, length-degree (class_of w) c.good.partition)
 
-  module _ {r : Result ℕ Refusal} {parts : List ℕ}
+  module _ (r : Result ℕ Refusal) {parts : List ℕ}
       (o : Outcome (class_parts_into degree_limit w (replicate 16 0)) (count_told r) parts) where
     pub cycles-given : IsOk r
     unfolding class_parts_into

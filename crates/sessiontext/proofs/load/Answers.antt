@@ -14,7 +14,7 @@ use Rattle.sessiontext.proofs.load.Goals as goal
 pub returns-then-page-gt-PAGE_LIMIT : goal.returns-then-page-gt-PAGE_LIMIT
 returns-then-page-gt-PAGE_LIMIT c =
     let page = c.args.page.now in
-    rw c.unloaded.ensures
+    rw c.not_loaded.ensures
     (lent-refuses plain-faithful c.args.text.now page 6
     (rw (lt-ltb page_limit (length page) c.if-page-gt-PAGE_LIMIT.true) refl) (λ z. omega arith) refl)
 
@@ -23,7 +23,7 @@ returns-in-Err c =
     let text = c.args.text.now in
     let page = c.args.page.now in
     let fault = c.in-Err.ensures in
-    rw c.unloaded-in-Err.ensures
+    rw c.not_loaded-in-Err.ensures
     (text-faulty plain-faithful text page
     (rw (le-ltb page_limit (length page) c.if-page-gt-PAGE_LIMIT.false) refl)
     (head-fault plain_form text fault.0 fault.1) fault.1)
@@ -33,7 +33,7 @@ returns-in-Err-judge c =
     let text = c.args.text.now in
     let page = c.args.page.now in
     let fault = c.in-Err-judge.ensures in
-    rw c.unloaded-in-Err-judge.ensures
+    rw c.not_loaded-in-Err-judge.ensures
     (text-faulty plain-faithful text page
     (rw (le-ltb page_limit (length page) c.if-page-gt-PAGE_LIMIT.false) refl)
     (head-line-fault text c.in-Ok.ensures fault.0) fault.1)
@@ -43,7 +43,7 @@ returns-then-page-slip c =
     let text = c.args.text.now in
     let page = c.args.page.now in
     let head = c.in-Ok.ensures in
-    rw c.unloaded-then-page-slip.ensures
+    rw c.not_loaded-then-page-slip.ensures
     (lines-many plain-faithful text page (rw (le-ltb page_limit (length page) c.if-page-gt-PAGE_LIMIT.false) refl)
     (head-line-fault text head (sym c.in-Ok-judge.ensures.0)) (rw (head-count text head) at c.if-page-slip.true))
 
@@ -55,7 +55,7 @@ returns-then-not-enough c =
     let enough =
     lines-enough text c.in-Ok-judge.ensures.1 (head-rest text head)
     (c.budget.ensures ∙ ap (budget_of degree_limit) head.slip) in
-    rw c.unloaded-then-not-enough.ensures
+    rw c.not_loaded-then-not-enough.ensures
     (lines-unsound plain-faithful text page (rw (le-ltb page_limit (length page) c.if-page-gt-PAGE_LIMIT.false) refl)
     (head-line-fault text head (sym c.in-Ok-judge.ensures.0)) (rw (head-count text head) at c.if-page-slip.false) enough
     c.if-not-enough.true)
@@ -85,4 +85,4 @@ returns c =
     rw head.slip
     (loads plain-faithful text page (rw (le-ltb page_limit (length page) c.if-page-gt-PAGE_LIMIT.false) refl)
     (head-line-fault text head (sym c.in-Ok-judge.ensures.0)) room enough c.if-not-enough.false
-    (lines-put text page c.put.ensures (head-rest text head) (head-count text head) c.words.ensures room))
+    (lines-put text page c.put.ensures (head-rest text head) (head-count text head) c.clear.ensures room))

@@ -14,7 +14,7 @@ use Rattle.sessiontext.proofs.gathered.load.Goals as goal
 pub returns-then-page-gt-PAGE_LIMIT : goal.returns-then-page-gt-PAGE_LIMIT
 returns-then-page-gt-PAGE_LIMIT c =
     let page = c.args.page.now in
-    rw c.unloaded.ensures
+    rw c.not_loaded.ensures
     (lent-refuses gathered-faithful c.args.text.now (page, c.args.coefficients.now) 6
     (rw (lt-ltb page_limit (length page) c.if-page-gt-PAGE_LIMIT.true) refl) (λ z. omega arith) refl)
 
@@ -22,7 +22,7 @@ pub returns-then-page-coefficients : goal.returns-then-page-coefficients
 returns-then-page-coefficients c =
     let page = c.args.page.now in
     let column = c.args.coefficients.now in
-    rw c.unloaded-then-page-coefficients.ensures
+    rw c.not_loaded-then-page-coefficients.ensures
     (lent-refuses gathered-faithful c.args.text.now (page, column) 21
     (rw (
       le-ltb page_limit (length page) c.if-page-gt-PAGE_LIMIT.false,
@@ -35,7 +35,7 @@ returns-in-Err c =
     let lent : gathered_mode.Lent = (c.args.page.now, c.args.coefficients.now) in
     let passes = lent-passes lent.0 lent.1 c.if-page-gt-PAGE_LIMIT.false c.if-page-coefficients.false in
     let fault = c.in-Err.ensures in
-    rw c.unloaded-in-Err.ensures
+    rw c.not_loaded-in-Err.ensures
     (text-faulty gathered-faithful text lent passes (head-fault gathered_form text fault.0 fault.1) fault.1)
 
 pub returns-in-Some : goal.returns-in-Some
@@ -44,7 +44,7 @@ returns-in-Some c =
     let lent : gathered_mode.Lent = (c.args.page.now, c.args.coefficients.now) in
     let passes = lent-passes lent.0 lent.1 c.if-page-gt-PAGE_LIMIT.false c.if-page-coefficients.false in
     let fault = c.in-Some.ensures in
-    rw c.unloaded-in-Some.ensures
+    rw c.not_loaded-in-Some.ensures
     (text-faulty gathered-faithful text lent passes (left-fault text c.in-Ok.ensures fault.0) fault.1)
 
 pub returns-then-page-slip : goal.returns-then-page-slip
@@ -53,7 +53,7 @@ returns-then-page-slip c =
     let lent : gathered_mode.Lent = (c.args.page.now, c.args.coefficients.now) in
     let passes = lent-passes lent.0 lent.1 c.if-page-gt-PAGE_LIMIT.false c.if-page-coefficients.false in
     let head = c.in-Ok.ensures in
-    rw c.unloaded-then-page-slip.ensures
+    rw c.not_loaded-then-page-slip.ensures
     (lines-many gathered-faithful text lent passes (left-fault text head (sym c.in_default.ensures))
     (rw (lines-count text head) at c.if-page-slip.true))
 
@@ -67,7 +67,7 @@ returns-then-not-sound c =
     let lent : gathered_mode.Lent = (c.args.page.now, c.args.coefficients.now) in
     let passes = lent-passes lent.0 lent.1 c.if-page-gt-PAGE_LIMIT.false c.if-page-coefficients.false in
     let head = c.in-Ok.ensures in
-    rw c.unloaded-then-not-sound.ensures
+    rw c.not_loaded-then-not-sound.ensures
     (lines-unsound gathered-faithful text lent passes (left-fault text head (sym c.in_default.ensures))
     (rw (lines-count text head) at c.if-page-slip.false)
     (rw (head.slip, left-lines text head) at c.sound.ensures) c.if-not-sound.true)
@@ -96,8 +96,8 @@ returns c =
     let put = rw (left-whole text head) at c.put.ensures in
     let down =
     rw (left-lines text head) at
-    (put-down c.in-Ok.head.slip _ taken.count c.if-page-slip.false c.if-page-coefficients.false put c.words.ensures
-    c.coefficients.ensures) in
+    (put-down c.in-Ok.head.slip _ taken.count c.if-page-slip.false c.if-page-coefficients.false put c.clear.ensures
+    c.clear-2.ensures) in
     rw head.slip
     (loads gathered-faithful text lent passes (left-fault text head (sym c.in_default.ensures)) room sound
     c.if-not-sound.false down)

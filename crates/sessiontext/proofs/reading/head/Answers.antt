@@ -10,8 +10,8 @@ use Rattle.sessiontext.proofs.Heads.{at-fault, no-degree, no-shape, other-degree
 use Rattle.sessiontext.proofs.Heads.{no-count, head_read, steps-kept, settled-kept}
 use Rattle.sessiontext.proofs.reading.head.Goals as goal
 
-pub slice_bounds-line-end-2 : goal.slice_bounds-line-end-2
-slice_bounds-line-end-2 c =
+pub slice_bounds-number-end-2 : goal.slice_bounds-number-end-2
+slice_bounds-number-end-2 c =
     let t = c.args.text.now in
     let six = six c.args.text.now c.line_end-shape_at.ensures c.line_end-class_at.ensures c.line_end-steps_at.ensures
     c.line_end-settled_at.ensures c.line_end-count_at.ensures c.line_end-end.ensures in

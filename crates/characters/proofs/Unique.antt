@@ -1,5 +1,6 @@
 -- No second outcome meets a contract. Each theorem is of the contract itself, as Rattle reads it (`Reads.Post`).
 use mathlib.Core.Path.{◌≡◌, sym, ◌∙◌}
+use Rattle.words.proofs.Told.{number-told-once, judged-once}
 use Rattle.characters.specs.Watch.Answers.{one_answer}
 use Rattle.characters.proofs.character.Reads as character
 use Rattle.characters.proofs.character_degree.Reads as character-degree
@@ -9,16 +10,16 @@ use Rattle.characters.proofs.watches.watch.Reads as watch-session
 -- ---- characters
 pub character-once : (κs : _) (a : _) (r r' : _) (s s' : _) → character.Post κs a r s
     → character.Post κs a r' s' → r ≡ r'
-character-once κs a r r' s s' p q = p ∙ sym q
+character-once κs a r r' s s' p q = number-told-once (p ∙ sym q)
 
 pub character-degree-once : (κs : _) (a : _) (r r' : _) (s s' : _) → character-degree.Post κs a r s
     → character-degree.Post κs a r' s' → r ≡ r'
-character-degree-once κs a r r' s s' p q = p ∙ sym q
+character-degree-once κs a r r' s s' p q = number-told-once (p ∙ sym q)
 
 -- ---- watches
 pub kind-refusal-once : (κs : _) (a : _) (r r' : _) (s s' : _) → kind-refusal.Post κs a r s
     → kind-refusal.Post κs a r' s' → r ≡ r'
-kind-refusal-once κs a r r' s s' p q = p ∙ sym q
+kind-refusal-once κs a r r' s s' p q = judged-once (p ∙ sym q)
 
 pub watch-once : (κs : _) (a : _) (r r' : _) (s s' : _) → watch-session.Post κs a r s → watch-session.Post κs a r' s'
     → r ≡ r'

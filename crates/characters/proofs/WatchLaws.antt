@@ -1,7 +1,7 @@
 -- From the tests of a watch, in any mode, to what it is promised to answer, and the numbers of a ratio.
 --   Watching ..   what it tells that no check refuses a watch
 use Rattle.std.specs.Prelude.{◌∷◌, ◌+◌, ◌^◌, ◌+ℤ◌}
-use mathlib.Core.Path.{◌≡◌, sym, ◌∙◌, ap}
+use mathlib.Core.Path.{◌≡◌, refl, sym, ◌∙◌, ap}
 use Prim.Native.Nat.{◌≤◌, ◌<◌}
 use native.Mathlib.Decide.{dec_le, dec_lt}
 use native.Mathlib.Omega.{arith}
@@ -17,8 +17,12 @@ use Rattle.theory.specs.Character.{character_degree}
 use Rattle.theory.specs.Refusals.{Check, first_of, shape_checks, no-8}
 use Rattle.theory.proofs.Refusals.Laws.{both-pass, first-refuses, first_passes, or-refused, or-given}
 use Rattle.theory.proofs.Refusals.Laws.{shape-passes}
-use Rattle.words.specs.Answers.{number_answer}
-use Rattle.words.specs.Answers.{NumberAnswer}
+use Rattle.std.specs.Prelude.{IsOk}
+use Rattle.std.specs.declared.result.Result.{Result}
+use Rattle.std.specs.declared.result.Result.TheVariants.{Ok, Err}
+use Rattle.words.specs.declared.refusal.Refusal.{Refusal}
+use Rattle.words.specs.Answers.{number_answer, number_told, NumberAnswer}
+use Rattle.words.proofs.Told.{refuses}
 use Rattle.words.proofs.Factorials.{factorial-fits}
 use Rattle.pages.specs.Line.{Line, line_degree, signed_character}
 use Rattle.pages.specs.declared.Slip.{Slip}
@@ -155,28 +159,38 @@ module _ (limit : ℕ) (small : limit ≤ largest_limit) (x : ℕ) (s : SoundLin
       (carried-is (signed_character (line_of x)) (omega (arith, line-bounded s, alone-fits)))
 
   -- the character degree, as the call answers it
-  module _ (exactly : limit ≤ ratio_limit) (a : NumberAnswer) (e : a ≡ shape_character_degree limit (line_of x).shape)
-    where
-      abbrev by : ℤ
-      by = character_degree (shape_of (line_of x).shape)
+  module _ (r : Result ℤ Refusal) (e : number_told r ≡ shape_character_degree limit (line_of x).shape) where
+    abbrev by : ℤ
+    by = character_degree (shape_of (line_of x).shape)
 
+    told : number_told r ≡ number_answer 0 by
+    unfolding shape_character_degree
+    told =
+        let none : first_of (shape_checks limit (line_of x).shape) ≡ 0 =
+        shape-passes (record { good = good-shape (line_of x).shape s.shape; small = s.within }) in
+        e ∙ or-given (λ k. number_answer k (pos 0)) _ _ none
+
+    pub degree-given : IsOk r
+    degree-given = go r told
+      where
+        go : (r : Result ℤ Refusal) → number_told r ≡ number_answer 0 by → IsOk r
+        go (Ok d) is = refl
+        go (Err d) is = absurd (refuses d (ap (λ (k : NumberAnswer). k.refused) is))
+
+    module _ (exactly : limit ≤ ratio_limit) (d : ℤ) (is : r ≡ Ok d) where
       exact : Exact (line_of x)
       exact = line-exact s (unit-weight x) (omega (arith, s.within))
 
-      degree-carried : carried a.number ≡ by
-      unfolding shape_character_degree
+      degree-carried : carried d ≡ by
       degree-carried =
-          let none : first_of (shape_checks limit (line_of x).shape) ≡ 0 =
-          shape-passes (record { good = good-shape (line_of x).shape s.shape; small = s.within }) in
-          let number : a.number ≡ by =
-          ap (λ (k : NumberAnswer). k.number) (e ∙ or-given (λ k. number_answer k (pos 0)) _ _ none) in
+          let number : d ≡ by = ap (λ (k : NumberAnswer). k.number) (sym (ap number_told is) ∙ told) in
           ap carried number ∙ carried-is by (omega (arith, exact.degree-fits))
 
       pub ratio-fits : (nat_abs (carried (pos 0 +ℤ signed_character (line_of x))) ≤ 2 ^ 53)
-          × (nat_abs (carried a.number) ≤ 2 ^ 53)
+          × (nat_abs (carried d) ≤ 2 ^ 53)
       ratio-fits = rw (alone-carried, degree-carried) (exact.character-fits, exact.degree-fits)
 
       pub ratio-is : div binary64 (of_int binary64 (carried (pos 0 +ℤ signed_character (line_of x))))
-          (of_int binary64 (carried a.number)) ≡ ratio (line_of x)
+          (of_int binary64 (carried d)) ≡ ratio (line_of x)
       unfolding ratio
       ratio-is = rw (alone-carried, degree-carried)

@@ -1,13 +1,13 @@
-// The calculator: characters of the symmetric group, and the watches of a session. Every call takes every input; a
-// refused number is 0.
+// The calculator: characters of the symmetric group, and the watches of a session. Every call takes every input.
 
 #![tactic(auto)]
 
 ghost use Rattle.std.specs.Prelude.{◌≡◌};
 ghost use Rattle.theory.specs.Limits.{degree_limit};
+ghost use Rattle.words.specs.Answers.{number_told};
 ghost use Rattle.characters.specs.Calls.{character_of, shape_character_degree};
 
-use words::NumberAnswer;
+use words::Refusal;
 
 mod evaluation;
 mod frobenius;
@@ -16,7 +16,7 @@ mod small_tables;
 mod walking;
 pub mod watches;
 
-// What a watch answers.
+// What a watch answers: the form that document 01 names, with the refusal as one of its cases.
 #[derive(Clone, Copy)]
 pub enum Watched {
     Whole(i64),
@@ -25,35 +25,17 @@ pub enum Watched {
 }
 
 // The character of a shape word on a class word. Refuses 1, 3, 2, 4, 5.
-pub fn character(shape: u32, class: u32) -> NumberAnswer
-    ensures { result ≡ character_of degree_limit shape class }
+pub fn character(shape: u32, class: u32) -> Result<i64, Refusal>
+    ensures { number_told result ≡ character_of degree_limit shape class }
 {
-    let pair = pairs::common_degree(shape, class);
-    if pair.refused != 0 {
-        return NumberAnswer {
-            refused: pair.refused,
-            number: 0,
-        };
-    }
-    NumberAnswer {
-        refused: 0,
-        number: evaluation::value(pair.shape, class),
-    }
+    let pair = pairs::common_degree(shape, class)?;
+    Ok(evaluation::value(pair.shape, class))
 }
 
 // The character degree of a shape word: its character on (1^n). Refuses 1, then 2.
-pub fn character_degree(shape: u32) -> NumberAnswer
-    ensures { result ≡ shape_character_degree degree_limit shape }
+pub fn character_degree(shape: u32) -> Result<i64, Refusal>
+    ensures { number_told result ≡ shape_character_degree degree_limit shape }
 {
-    let read = words::shapes::read(shape);
-    if read.refused != 0 {
-        return NumberAnswer {
-            refused: read.refused,
-            number: 0,
-        };
-    }
-    NumberAnswer {
-        refused: 0,
-        number: frobenius::quotient(read.word, read.degree),
-    }
+    let shape = words::shapes::read(shape)?;
+    Ok(frobenius::quotient(shape.word, shape.degree))
 }

@@ -4,41 +4,31 @@ ghost use Rattle.std.specs.Float.{binary64};
 ghost use Rattle.std.specs.Float.Ieee.{of_int, div};
 ghost use Rattle.theory.specs.Refusals.{first_of};
 ghost use Rattle.theory.specs.Limits.{degree_limit};
+ghost use Rattle.words.specs.Answers.{refusal_of};
 ghost use Rattle.pages.specs.Page.{line_of};
 ghost use Rattle.pages.specs.Sound.Laws.{SoundLine};
 ghost use Rattle.characters.specs.Watch.{reads, ratio as ratioOf, kind_checks, watch_checks, watch as watchOf};
 
 use super::{Watched, character_degree, lines};
 use pages::{Slip, soundness};
+use words::Refusal;
 
-// Why a kind and a line are refused where so many lines wait, 0 where they are not: 15, 8; kinds 3 to 5 ignore the line
-// number.
-pub fn kind_refusal(kind: u64, lines: usize, line: usize) -> u8
-    ensures { result ≡ first_of (kind_checks kind lines line) }
+// Why a kind and a line are refused where so many lines wait: 15, 8; kinds 3 to 5 ignore the line number.
+pub fn kind_refusal(kind: u64, lines: usize, line: usize) -> Result<(), Refusal>
+    ensures { refusal_of result ≡ first_of (kind_checks kind lines line) }
 {
-    if kind == 0 {
-        return 15;
+    match kind {
+        1 | 2 if lines <= line => Err(Refusal::NoSuchLine),
+        1..=5 => Ok(()),
+        _ => Err(Refusal::NoSuchKind),
     }
-    if 5 < kind {
-        return 15;
-    }
-    if 2 < kind {
-        return 0;
-    }
-    if lines <= line {
-        return 8;
-    }
-    0
 }
 
-// Why a watch is refused, 0 where it is not: 6, 7, 15, 8.
-fn watch_refusal(slip: Slip, page: &[u64], kind: u64, line: usize) -> u8
-    ensures { result ≡ first_of (watch_checks degree_limit slip page.now kind line) }
+// Why a watch is refused: 6, 7, 15, 8.
+fn watch_refusal(slip: Slip, page: &[u64], kind: u64, line: usize) -> Result<(), Refusal>
+    ensures { refusal_of result ≡ first_of (watch_checks degree_limit slip page.now kind line) }
 {
-    let refused = soundness::refusal(slip, page);
-    if refused != 0 {
-        return refused;
-    }
+    soundness::refusal(slip, page)?;
     kind_refusal(kind, slip.lines, line)
 }
 
@@ -55,8 +45,8 @@ fn ratio(line: u64) -> f64
     requires { SoundLine degree_limit (line_of line) }
     ensures { result ≡ ratioOf (line_of line) }
 {
-    let degree = character_degree(linewords::shape(line));
-    divided(lines::add_line(0, line), degree.number)
+    let degree = character_degree(linewords::shape(line)).unwrap();
+    divided(lines::add_line(0, line), degree)
 }
 
 // What a kind shows: 1 a line's signed character, 2 its ratio, 3 the settled sum, 4 the sum of all signed waiting
@@ -64,9 +54,8 @@ fn ratio(line: u64) -> f64
 pub fn watch(slip: Slip, page: &[u64], kind: u64, line: usize) -> Watched
     ensures { reads result ≡ watchOf degree_limit slip page.now kind line }
 {
-    let refused = watch_refusal(slip, page, kind, line);
-    if refused != 0 {
-        return Watched::Refused(refused);
+    if let Err(refusal) = watch_refusal(slip, page, kind, line) {
+        return Watched::Refused(refusal.number());
     }
     let lines = slip.lines;
     match kind {

@@ -1,9 +1,31 @@
-// What the documents tabulate.
+// What the documents tabulate of a degree.
 ghost use Rattle.listing.specs.Private.Tables.{most_partitions};
 ghost use Rattle.std.specs.Prelude.{◌≤◌};
 
+// A degree from 0 to 16 and the number of its partitions.
+#[derive(Clone, Copy)]
+pub struct Degree {
+    pub n: u32,
+    pub count: u32,
+    ghost within: { (1 ≤ count) × (count ≤ most_partitions) },
+}
+
+impl Degree {
+    pub fn new(n: u8) -> Degree {
+        Degree {
+            n: u32::from(n),
+            count: count(n),
+        }
+    }
+
+    // The entries of a column, which stand in front.
+    pub fn entries(self, column: &[i64; listing::MOST_PARTITIONS]) -> &[i64] {
+        &column[..self.count as usize]
+    }
+}
+
 // The number of partitions of a degree (document 01, "Listing").
-pub fn count(degree: u8) -> u32
+fn count(degree: u8) -> u32
     ensures { (1 ≤ result) × (result ≤ most_partitions) }
 {
     match degree {

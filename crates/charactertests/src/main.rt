@@ -20,11 +20,11 @@ use testing::print;
 
 fn main(rt: HostRuntime) -> io::Result<()> {
     let found = walk::all();
-    columns::print_all(&rt, found.columns)?;
+    found.columns.print_all(&rt)?;
     print(&rt, b"columns are orthogonal, formula (2b)", found.products)?;
-    degrees::print_all(&rt, found.degrees)?;
+    found.degrees.print_all(&rt)?;
     print(&rt, b"single characters to degree 14", found.singles)?;
-    ranks::print_all(&rt, found.ranks)?;
+    found.ranks.print_all(&rt)?;
     print(&rt, b"degree above 16, 12", ranks::above())?;
     print(&rt, b"pairs at a border", borders::pairs())?;
     print(&rt, b"shapes at a border", borders::shapes())?;

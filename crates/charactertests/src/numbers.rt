@@ -5,13 +5,11 @@ ghost use Rattle.std.specs.Prelude.{◌≤◌, nat_abs};
 pub fn small(number: i64) -> i64
     ensures { nat_abs result ≤ 2000000 }
 {
-    if number < -2_000_000 {
-        return 0;
+    if (-2_000_000..=2_000_000).contains(&number) {
+        number
+    } else {
+        0
     }
-    if 2_000_000 < number {
-        return 0;
-    }
-    number
 }
 
 pub fn product(x: i64, y: i64) -> i64

@@ -1,56 +1,28 @@
 // Column orthogonality, formula (2b) of document 000: the products of two classes' entries sum to n!/h for a class of
 // size h with itself, and to 0 for two classes.
-ghost use Rattle.listing.specs.Private.Tables.{most_partitions};
-ghost use Rattle.std.specs.Prelude.{◌≡◌, ◌*◌, ◌≤◌, ◌<◌, length};
-
+use super::lists::Degree;
 use super::numbers::{product, small};
 use testing::Tally;
 use testing::numbers::{natural, sum};
 
-// The classes and the entries of a whole table of the greatest degree.
-const CLASSES: u32 = listing::MOST_PARTITIONS as u32;
+// Columns of a degree, each with room for the entries of the greatest degree.
+type Table = [[i64; listing::MOST_PARTITIONS]; listing::MOST_PARTITIONS];
 
-const ENTRIES: usize = listing::MOST_PARTITIONS * listing::MOST_PARTITIONS;
-
-// The columns of all classes of a degree, one after another, each with room for as many entries.
-fn columns(degree: u32) -> [i64; ENTRIES] {
-    let mut table = [0i64; ENTRIES];
-    let mut rank = 0u32;
-    while rank < CLASSES {
-        let class = listing::class_at(degree, rank);
-        if class.refused != 0 {
-            break;
-        }
-        let at = rank as usize * listing::MOST_PARTITIONS;
-        let end = at + listing::MOST_PARTITIONS;
-        classcolumns::column(class.word, &mut table[at..end]);
-        rank += 1;
+// The columns of all classes of a degree.
+fn columns(degree: Degree) -> Table {
+    let mut table = [[0i64; listing::MOST_PARTITIONS]; listing::MOST_PARTITIONS];
+    for (rank, column) in (0..degree.count).zip(&mut table) {
+        let class = listing::class_at(degree.n, rank);
+        classcolumns::column(class.word, column);
     }
     table
 }
 
-fn sum_of_products(x: &[i64], y: &[i64]) -> i64
-    requires { (length x.now ≤ most_partitions) × (length x.now ≤ length y.now) }
-{
-    let mut products = 0i64;
-    let mut i = 0;
-    while i < x.len() {
-        products = sum(products, product(small(x[i]), small(y[i])));
-        i += 1;
-    }
-    products
-}
-
-// The sum for the classes of two ranks, over `count` shapes.
-fn sum_for(table: &[i64], a: u32, b: u32, count: usize) -> i64
-    requires table_len { (length table.now ≡ most_partitions * most_partitions) × (count ≤ most_partitions) }
-    requires a_lt_most_partitions { (a < most_partitions) × (b < most_partitions) }
-{
-    let i = a as usize * listing::MOST_PARTITIONS;
-    let i_end = i + count;
-    let j = b as usize * listing::MOST_PARTITIONS;
-    let j_end = j + count;
-    sum_of_products(&table[i..i_end], &table[j..j_end])
+fn sum_of_products(x: &[i64], y: &[i64]) -> i64 {
+    x.iter().zip(y).fold(
+        0,
+        |so_far, (x, y)| sum(so_far, product(small(*x), small(*y))),
+    )
 }
 
 // Whether a sum is the factorial by the size of a class.
@@ -61,32 +33,20 @@ fn is_quotient(sum: i64, factorial: u64, size: u64) -> bool {
     (factorial % size == 0) & (natural(sum) == factorial / size)
 }
 
-// The class of a rank with those up to it.
-fn of_class(t: Tally, table: &[i64], rank: u32, count: usize, factorial: u64, size: u64) -> Tally
-    requires table_len { length table.now ≡ most_partitions * most_partitions }
-    requires rank_lt_most_partitions { (rank < most_partitions) × (count ≤ most_partitions) }
-{
-    let mut t = t;
-    let mut other = 0u32;
-    while other < rank {
-        t = t.add(sum_for(table, rank, other, count) == 0);
-        other += 1;
-    }
-    let sum = sum_for(table, rank, rank, count);
-    t.add(is_quotient(sum, factorial, size))
-}
-
-pub fn of_degree(t: Tally, degree: u32, count: u32, factorial: u64) -> Tally
-    requires { count ≤ most_partitions }
-{
+// Each class with those up to it.
+pub fn of_degree(found: Tally, degree: Degree, factorial: u64) -> Tally {
     let table = columns(degree);
-    let mut t = t;
-    let mut rank = 0u32;
-    while rank < count {
-        let class = listing::class_at(degree, rank);
+    let columns = &table[..];
+    let mut t = found;
+    for rank in 0..degree.count {
+        let class = listing::class_at(degree.n, rank);
         let size = natural(words::classes::size(class.word).number);
-        t = of_class(t, &table, rank, count as usize, factorial, size);
-        rank += 1;
+        let at = rank as usize;
+        let column = degree.entries(&columns[at]);
+        for other in &columns[..at] {
+            t = t.add(sum_of_products(column, degree.entries(other)) == 0);
+        }
+        t = t.add(is_quotient(sum_of_products(column, column), factorial, size));
     }
     t
 }

@@ -1,6 +1,6 @@
 -- Where shape words stand in the table of all of them, and how a word is searched for; what holds of any such list of
 -- words is theory's (Listing/Words).
-use Rattle.std.specs.Prelude.{◌∷◌, ◌+◌}
+use Rattle.std.specs.Prelude.{◌∷◌, ◌+◌, IsOk}
 use mathlib.Core.Path.{◌≡◌, refl, sym, ◌∙◌, ap}
 use Prim.Native.Nat.{◌≤◌, ◌<◌}
 use native.Mathlib.Decide.{ℕ_discrete}
@@ -16,8 +16,13 @@ use Rattle.theory.specs.Bounds.Laws.{largest_limit}
 use Rattle.theory.specs.Refusals.{first_of, no-12}
 use Rattle.theory.specs.Refusals.Laws.{Within}
 use Rattle.theory.proofs.Refusals.Laws.{answer-number, none-applies}
-use Rattle.listing.specs.declared.SectionAnswer.{SectionAnswer}
-use Rattle.listing.specs.Calls.{section_answer, section_of, words_within}
+use Rattle.std.specs.declared.result.Result.{Result}
+use Rattle.std.specs.declared.result.Result.TheVariants.{Ok, Err}
+use Rattle.words.specs.Answers.{refusal_of}
+use Rattle.words.specs.declared.refusal.Refusal.{Refusal}
+use Rattle.words.proofs.Told.{told-once, is-given}
+use Rattle.listing.specs.declared.Span.{Span}
+use Rattle.listing.specs.Calls.{SectionAnswer, section_answer, section_told, section_of, words_within}
 use Rattle.listing.specs.Private.Tables.{shape_words, word_count}
 
 pub words-counted : length shape_words ≡ word_count
@@ -25,6 +30,12 @@ unfolding words_below listing partitions
 words-counted = refl
 
 -- ---- the section of a degree
+pub section-told-once : {r s : Result Span Refusal} → section_told r ≡ section_told s → r ≡ s
+section-told-once {r} {s} =
+    told-once (λ k (s : Span). section_answer k s.start s.count) (record { start = 0; count = 0 })
+    (λ (a : SectionAnswer). a.refused) (λ (a : SectionAnswer). record { start = a.start; count = a.count })
+    (λ k x. refl) (λ k x. refl) r s
+
 module _ (limit n : ℕ) (r : SectionAnswer) (e : r ≡ section_of limit n) where
   pub section-number : r.refused ≡ first_of (no-12 limit n ∷ [])
   unfolding section_of
@@ -38,6 +49,15 @@ module _ (limit n : ℕ) (r : SectionAnswer) (e : r ≡ section_of limit n) wher
   pub section-given : n ≤ limit → r ≡ section_answer 0 (start n) (length (listing n))
   unfolding section_of
   section-given h = rw (le-ltb limit n h) at e
+
+section-told-number : (r : Result Span Refusal) → (section_told r).refused ≡ refusal_of r
+section-told-number (Ok s) = refl
+section-told-number (Err e) = refl
+
+pub section-found : (limit n : ℕ) (r : Result Span Refusal) → section_told r ≡ section_of limit n → n ≤ limit → IsOk r
+section-found limit n r e h =
+    is-given r
+    (sym (section-told-number r) ∙ ap (λ (x : SectionAnswer). x.refused) (section-given limit n (section_told r) e h))
 
 -- ---- indexes
 pub index_below : (limit n i : ℕ) → n ≤ limit → i < length (listing n) → start n + i < length (words_within limit)

@@ -21,17 +21,13 @@ use Rattle.theory.specs.Refusals.{first_of, no-11, no-12, shape_checks, class_ch
 use Rattle.theory.specs.Bounds.Laws.{largest_limit}
 use Rattle.theory.proofs.Refusals.Laws.{shape-passes, within-class, none-applies, first-refuses}
 use Rattle.words.specs.Answers.{Outcome, word_answer, number_answer}
-use Rattle.words.specs.declared.CountAnswer.{CountAnswer}
-use Rattle.words.specs.declared.NumberAnswer.{NumberAnswer}
-use Rattle.words.specs.declared.ShapeReading.{ShapeReading}
-use Rattle.words.specs.declared.WordAnswer.{WordAnswer}
+use Rattle.words.specs.Answers.{WordAnswer, NumberAnswer, CountAnswer, ShapeReading}
 use Rattle.words.specs.Calls.{shape_parts_into, class_parts_into, shape_word_from, class_word_from, shape_reading}
 use Rattle.words.proofs.Answers.{word-given, number-refused, number-given}
 use Rattle.words.proofs.Callers.{word-given-by, word-refused-by}
 use Rattle.words.proofs.Callers.{FrontGiven, column-refusal, front-given}
 use Rattle.words.proofs.Readings.{read-shape, reading-number, shape-read}
-use Rattle.listing.specs.declared.SectionAnswer.{SectionAnswer}
-use Rattle.listing.specs.Calls.{section_of, rank_checks, shape_at, class_at, shape_rank, class_rank}
+use Rattle.listing.specs.Calls.{SectionAnswer, section_of, rank_checks, shape_at, class_at, shape_rank, class_rank}
 use Rattle.listing.proofs.Indexes.{section-number}
 
 abbrev pub at : ℕ → ℕ → Parts
@@ -168,13 +164,18 @@ module _ (limit : ℕ) (fits : limit ≤ largest_limit) (w : ℕ) where
       parts-of-class =
           front-given (class_checks limit w) 14 (class_of w) (blank limit) refl class-room k parts o none
 
+      pub shape-of-class : {shape : WordAnswer} → shape ≡ shape_word_from limit (take k.count parts)
+          → shape ≡ word_answer 0 (shape_word (class_of w))
+      shape-of-class e =
+          e ∙ ap (shape_word_from limit) parts-of-class.front
+          ∙ shape-word-given limit fits (class_of w) (class-partition none) (within-class limit w none).small
+
       pub class-ranked : (shape : WordAnswer) → shape ≡ shape_word_from limit (take k.count parts)
           → (a : NumberAnswer) → a ≡ shape_rank limit shape.word → a ≡ class_rank limit w
       unfolding class_rank
       class-ranked shape e a f =
           let p = class-partition none in
           let l = (within-class limit w none).small in
-          let front = ap (shape_word_from limit) parts-of-class.front in
-          let same = e ∙ front ∙ shape-word-given limit fits (class_of w) p l in
-          f ∙ ap (λ (x : WordAnswer). shape_rank limit x.word) same ∙ shape-rank-given limit fits (class_of w) p l
+          f ∙ ap (λ (x : WordAnswer). shape_rank limit x.word) (shape-of-class e)
+          ∙ shape-rank-given limit fits (class_of w) p l
           ∙ number-given (class_checks limit w) (pos (rank (class_of w))) (pos (rank (class_of w))) none refl

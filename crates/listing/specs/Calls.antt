@@ -1,6 +1,7 @@
 -- What the calls of the listing promise (document 01, "Listing", "Order").
 -- Each has the name of what it gives; `_at` is of a degree n and a rank r. The limit on degrees comes first.
 --   words_within limit     the words of all shapes within the limit, degree by degree, each degree in listing order
+--   section_told r         what is told of a call that gives r: the section, or the refusal's number beside 0 and 0
 --   section_of limit n     where the words of degree n start among them, and how many they are
 --   rank_checks limit n r  the checks of a degree n and a rank r
 use Rattle.std.specs.Prelude.{◌∷◌}
@@ -9,14 +10,22 @@ use Rattle.theory.specs.ShapeWord.{shape_word, shape_of}
 use Rattle.theory.specs.ClassWord.{class_word, class_of}
 use Rattle.theory.specs.Listing.{listing, rank, words_below, start}
 use Rattle.theory.specs.Refusals.{Check, first_of, refused_or, shape_checks, class_checks, no-11, no-12}
-use Rattle.listing.specs.declared.SectionAnswer.{SectionAnswer}
-use Rattle.words.specs.Answers.{worded, numbered}
-use Rattle.words.specs.declared.NumberAnswer.{NumberAnswer}
-use Rattle.words.specs.declared.WordAnswer.{WordAnswer}
+use Rattle.std.specs.declared.result.Result.{Result}
+use Rattle.words.specs.declared.refusal.Refusal.{Refusal}
+use Rattle.words.specs.Answers.{told, worded, numbered, WordAnswer, NumberAnswer}
+use Rattle.listing.specs.declared.Span.{Span}
 pub mod Laws
+
+pub record SectionAnswer : Type 0 where
+  pub refused : ℕ
+  pub start : ℕ
+  pub count : ℕ
 
 abbrev pub section_answer : ℕ → ℕ → ℕ → SectionAnswer
 section_answer k start count = record { refused = k; start = start; count = count }
+
+abbrev pub section_told : Result Span Refusal → SectionAnswer
+section_told = told (λ k s. section_answer k s.start s.count) (record { start = 0; count = 0 })
 
 module _ (limit : ℕ) where
   abbrev pub words_within : List ℕ

@@ -1,5 +1,5 @@
 // The listing of partitions (document 01, "Listing"): a degree and a rank give a partition, as either word, and either
-// word gives its rank. Every call takes every input; a refused word or number is 0.
+// word gives its rank. Every call takes every input.
 
 #![tactic(auto)]
 
@@ -9,10 +9,13 @@ ghost use Rattle.theory.specs.ShapeWord.{shape_of};
 ghost use Rattle.theory.specs.Listing.{rank as rank_of};
 ghost use Rattle.theory.specs.Limits.{degree_limit};
 ghost use Rattle.theory.specs.Refusals.Laws.{Within};
-ghost use Rattle.listing.specs.Calls.{words_within, section_of, shape_at, class_at, shape_rank, class_rank};
+ghost use Rattle.words.specs.Answers.{word_told, number_told};
+ghost use Rattle.listing.specs.Calls.{words_within, section_told, section_of, shape_at, class_at};
+ghost use Rattle.listing.specs.Calls.{shape_rank, class_rank};
 ghost use Rattle.listing.specs.Private.Tables.{shape_words};
 
 use tables::{COUNTS, STARTS, WORDS};
+use words::Refusal;
 
 mod tables;
 
@@ -23,9 +26,8 @@ pub const WORD_COUNT: usize = 915;
 pub const MOST_PARTITIONS: usize = 231;
 
 // The words of one degree among those of all degrees.
-#[derive(Clone, Copy)]
-pub struct SectionAnswer {
-    pub refused: u8,
+#[derive(Clone, Copy, Debug, PartialEq, Eq)]
+pub struct Span {
     pub start: usize,
     pub count: usize,
 }
@@ -38,60 +40,39 @@ pub fn shape_words() -> [u32; WORD_COUNT]
 }
 
 // Where the words of a degree start among them, and how many they are. Refuses 12.
-pub fn section(degree: u32) -> SectionAnswer
-    ensures { result ≡ section_of degree_limit degree }
+pub fn section(degree: u32) -> Result<Span, Refusal>
+    ensures { section_told result ≡ section_of degree_limit degree }
 {
     if words::LIMIT < degree {
-        return SectionAnswer {
-            refused: 12,
-            start: 0,
-            count: 0,
-        };
+        return Err(Refusal::DegreeTooLarge);
     }
     let n = degree as usize;
-    SectionAnswer {
-        refused: 0,
+    Ok(Span {
         start: STARTS[n],
         count: COUNTS[n],
-    }
+    })
 }
 
 // The shape word of a rank. Refuses 12, then 11.
-pub fn shape_at(degree: u32, rank: u32) -> words::WordAnswer
-    ensures { result ≡ shape_at degree_limit degree rank }
+pub fn shape_at(degree: u32, rank: u32) -> Result<u32, Refusal>
+    ensures { word_told result ≡ shape_at degree_limit degree rank }
 {
-    let section = section(degree);
-    if section.refused != 0 {
-        return words::WordAnswer {
-            refused: section.refused,
-            word: 0,
-        };
-    }
+    let section = section(degree)?;
     if section.count <= rank as usize {
-        return words::WordAnswer {
-            refused: 11,
-            word: 0,
-        };
+        return Err(Refusal::NoSuchRank);
     }
     let words = shape_words();
     let i = section.start + rank as usize;
-    words::WordAnswer {
-        refused: 0,
-        word: words[i],
-    }
+    Ok(words[i])
 }
 
 // The class word of a rank. Refuses 12, then 11.
-pub fn class_at(degree: u32, rank: u32) -> words::WordAnswer
-    ensures { result ≡ class_at degree_limit degree rank }
+pub fn class_at(degree: u32, rank: u32) -> Result<u32, Refusal>
+    ensures { word_told result ≡ class_at degree_limit degree rank }
 {
-    let shape = shape_at(degree, rank);
-    if shape.refused != 0 {
-        return shape;
-    }
+    let shape = shape_at(degree, rank)?;
     let mut parts = [0u8; words::LIMIT as usize];
-    let written = words::shapes::parts(shape.word, &mut parts);
-    let count = written.count;
+    let count = words::shapes::parts(shape, &mut parts).unwrap();
     words::classes::word(&parts[..count])
 }
 
@@ -101,7 +82,7 @@ fn search(words: &[u32], word: u32, degree: u32) -> u32
     requires { (words.now ≡ shape_words) × Within degree_limit word × (degree ≡ degree_of (shape_of word)) }
     ensures { result ≡ rank_of (shape_of word) }
 {
-    let start = section(degree).start;
+    let start = section(degree).unwrap().start;
     let mut rank = 0u32;
     while words[start + rank as usize] != word {
         rank += 1;
@@ -110,36 +91,20 @@ fn search(words: &[u32], word: u32, degree: u32) -> u32
 }
 
 // The rank of a shape. Refuses 1, then 2.
-pub fn shape_rank(word: u32) -> words::NumberAnswer
-    ensures { result ≡ shape_rank degree_limit word }
+pub fn shape_rank(word: u32) -> Result<i64, Refusal>
+    ensures { number_told result ≡ shape_rank degree_limit word }
 {
-    let shape = words::shapes::read(word);
-    if shape.refused != 0 {
-        return words::NumberAnswer {
-            refused: shape.refused,
-            number: 0,
-        };
-    }
+    let shape = words::shapes::read(word)?;
     let rank = search(&shape_words(), shape.word, shape.degree);
-    words::NumberAnswer {
-        refused: 0,
-        number: rank as i64,
-    }
+    Ok(i64::from(rank))
 }
 
 // The rank of a class. Refuses 3, then 4.
-pub fn class_rank(word: u32) -> words::NumberAnswer
-    ensures { result ≡ class_rank degree_limit word }
+pub fn class_rank(word: u32) -> Result<i64, Refusal>
+    ensures { number_told result ≡ class_rank degree_limit word }
 {
     let mut parts = [0u8; words::LIMIT as usize];
-    let written = words::classes::parts(word, &mut parts);
-    if written.refused != 0 {
-        return words::NumberAnswer {
-            refused: written.refused,
-            number: 0,
-        };
-    }
-    let count = written.count;
-    let shape = words::shapes::word(&parts[..count]);
-    shape_rank(shape.word)
+    let count = words::classes::parts(word, &mut parts)?;
+    let shape = words::shapes::word(&parts[..count]).unwrap();
+    shape_rank(shape)
 }

@@ -1,5 +1,4 @@
 pub mod Taking
 pub mod Calls
 pub mod Lists
-pub mod MovedLists
 pub mod Unique

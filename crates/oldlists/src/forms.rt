@@ -7,13 +7,13 @@ ghost use Rattle.theory.specs.Limits.{degree_limit};
 ghost use Rattle.theory.specs.Bounds.Laws.{largest_limit};
 ghost use Rattle.theory.specs.Refusals.{first_of};
 ghost use Rattle.theory.specs.Refusals.Laws.{Within, WithinClass};
-ghost use Rattle.words.specs.Answers.{Outcome};
-ghost use Rattle.oldlists.specs.Lists.{first_bad, moved as movedList};
+ghost use Rattle.words.specs.Answers.{Outcome, refusal_of};
+ghost use Rattle.oldlists.specs.Lists.{first_bad, moved as movedList, list_told};
 ghost use Rattle.oldlists.specs.Private.Forms.{form_checks, other_form};
 
-use super::{LIST_LIMIT, ListAnswer};
+use super::{LIST_LIMIT, Rejected};
 use words::parts::Parts;
-use words::{SHAPE_WORDS, classes, shapes};
+use words::{Refusal, SHAPE_WORDS, classes, shapes};
 
 // The new word of an old one. `bits` begins as 31 ones and one more; each row takes its zero out of them, behind the
 // zero of the row before and the ones by which that row is longer. At the end the ones behind the last row go, with the
@@ -57,36 +57,32 @@ fn old_word(word: u32) -> u32
     bits
 }
 
-// The number that refuses a word, as the call for its degree gives it; 0 for none. A list keeps good words: a new word
-// of 2^30 or more is refused 1.
-fn refusal(word: u32, old: bool) -> u8
-    ensures { result ≡ first_of (form_checks degree_limit old word) }
+// Why a word is refused, as the call for its degree gives it. A list keeps good words: a new word of 2^30 or more is
+// refused 1.
+fn refusal(word: u32, old: bool) -> Result<(), Refusal>
+    ensures { refusal_of result ≡ first_of (form_checks degree_limit old word) }
 {
     if old {
-        let answer = classes::degree(word);
-        return answer.refused;
+        classes::degree(word)?;
+        return Ok(());
     }
     if SHAPE_WORDS <= word {
-        return 1;
+        return Err(Refusal::BadShape);
     }
-    let answer = shapes::degree(word);
-    answer.refused
+    shapes::degree(word)?;
+    Ok(())
 }
 
-// What refuses the first bad word, and its index; 0 and 0 if there is none.
-fn first_bad(words: &[u32], old: bool) -> ListAnswer
-    ensures { result ≡ first_bad (form_checks degree_limit old) 0 words.now }
+// Why the first bad word is refused, and its index.
+fn first_bad(words: &[u32], old: bool) -> Result<(), Rejected>
+    ensures { list_told result ≡ first_bad (form_checks degree_limit old) 0 words.now }
 {
     for (i, word) in words.iter().enumerate() {
-        let refused = refusal(*word, old);
-        if refused != 0 {
-            return ListAnswer { refused, index: i };
+        if let Err(refusal) = refusal(*word, old) {
+            return Err(Rejected { refusal, index: i });
         }
     }
-    ListAnswer {
-        refused: 0,
-        index: 0,
-    }
+    Ok(())
 }
 
 // A word that is not refused, in the other form.
@@ -108,21 +104,18 @@ fn write(given: &[u32], lent: &mut [u32], old: bool)
 }
 
 // A list in the other form. Refuses 20, then as the first bad word is refused; all are judged before one is written.
-pub fn moved(given: &[u32], lent: &mut [u32], old: bool) -> ListAnswer
+pub fn moved(given: &[u32], lent: &mut [u32], old: bool) -> Result<(), Rejected>
     ensures { Outcome
-        (movedList (form_checks degree_limit old) (other_form old) given.now lent.old) result
+        (movedList (form_checks degree_limit old) (other_form old) given.now lent.old) (list_told result)
         lent.new }
 {
     if given.len() != lent.len() || LIST_LIMIT < given.len() {
-        return ListAnswer {
-            refused: 20,
+        return Err(Rejected {
+            refusal: Refusal::BadLengths,
             index: 0,
-        };
+        });
     }
-    let answer = first_bad(given, old);
-    if answer.refused != 0 {
-        return answer;
-    }
+    first_bad(given, old)?;
     write(given, lent, old);
-    answer
+    Ok(())
 }

@@ -22,7 +22,7 @@ mod lines;
 mod page;
 
 // A slip with the refusal number beside it.
-#[derive(Clone, Copy)]
+#[derive(Clone, Copy, PartialEq, Eq)]
 pub struct Handed {
     pub refused: u8,
     pub slip: Slip,

@@ -1,26 +1,53 @@
 // A random opening with its checks. The twin gets it after the run has had it: until then its page has the words that
 // the run's page had before.
-use super::comparing::{blank, conserved, same, same_slip};
-use super::drawing::{PAGE, asked, in_front};
-use pages::Slip;
-use sessions::Handed;
+use super::board::Row;
+use super::comparing::conserved;
+use super::drawing::{asked_words, in_front};
+use super::runs::Run;
+use pages::{BLANK, Slip};
 use testing::numbers;
 
-// A call's outcome: the run's slip after it, the refusal number, and what was wrong with it (0: nothing).
+// A call's outcome: the refusal number, and what was wrong with it (0: nothing).
 #[derive(Clone, Copy)]
-pub struct Found {
-    pub slip: Slip,
+pub struct Outcome {
     pub refused: u8,
     pub wrong: usize,
+}
+
+impl Outcome {
+    // One call more, in a row by what refused it and in one by what was wrong.
+    pub fn enter(self, row: &mut Row, wrong: &mut Row) {
+        row.add(usize::from(self.refused));
+        wrong.add(self.wrong);
+    }
+}
+
+// What was right of a call: the twin, that a refused one changes nothing, what comes of an accepted one, the sum, and
+// the refusal number, the number of lines or the line at fault.
+#[derive(Clone, Copy)]
+pub struct Right {
+    pub twins: bool,
+    pub stays: bool,
+    pub comes: bool,
+    pub sums: bool,
+    pub tells: bool,
+}
+
+impl Right {
+    // What was wrong: 1 for the twin, then 2, 4, 8 and 16, added up.
+    pub fn wrong(self) -> usize {
+        let twins = usize::from(!self.twins);
+        let stays = usize::from(!self.stays);
+        let comes = usize::from(!self.comes);
+        let sums = usize::from(!self.sums);
+        let tells = usize::from(!self.tells);
+        twins | stays << 1 | comes << 2 | sums << 3 | tells << 4
+    }
 }
 
 // Whether an opening is drawn: seldom, and mostly where no line waits.
 pub fn opens(run: Slip, word: u64) -> bool {
     (word % 32 == 0) | ((word % 16 < 12) & (run.lines == 0))
-}
-
-pub fn same_handed(handed: Handed, other: Handed) -> bool {
-    (handed.refused == other.refused) & same_slip(handed.slip, other.slip)
 }
 
 // Whether a slip asks for another's words, with so many steps more.
@@ -30,33 +57,35 @@ pub fn counted(slip: Slip, other: Slip, steps: i64) -> bool {
         & (slip.steps == numbers::sum(other.steps, steps))
 }
 
-// A drawn opening. It has a line, unless it is of degree 0, so there is always room for it. The run's word has up to
-// three ones more in front than the twin's, and both get the slip and the page of the good word.
-pub fn open(run: Slip, word: u64, page: &mut [u64; PAGE], twin: &mut [u64; PAGE]) -> Found {
-    let asked = asked(true, run, word);
-    let good = Slip {
-        shape: words::shapes::good(asked.shape).word,
-        class: asked.class,
-        settled: 0,
-        lines: 0,
-        steps: 0,
-        mode: pages::PLAIN,
-    };
-    let handed = sessions::open(in_front(asked.shape, word), asked.class, page);
-    let refused = handed.refused;
-    let slip = handed.slip;
-    let stays = same(page, twin) & blank(slip);
-    let other = sessions::open(asked.shape, asked.class, twin);
-    let twins = same(page, twin) & same_handed(handed, other);
-    let next = if refused == 0 { slip } else { run };
-    let lines = (good.shape != 0) as usize;
-    Found {
-        slip: next,
-        refused,
-        wrong: (!twins as usize)
-            | ((!((refused == 0) | stays) as usize) << 1)
-            | ((!((refused != 0) | counted(slip, good, 0)) as usize) << 2)
-            | ((!conserved(next, page) as usize) << 3)
-            | ((!((refused != 10) & ((refused != 0) | (slip.lines == lines))) as usize) << 4),
+impl Run {
+    // A drawn opening. It has a line, unless it is of degree 0, so there is always room for it. The run's word has up
+    // to three ones more in front than the twin's, and both get the slip and the page of the good word.
+    pub fn open(&mut self, word: u64) -> Outcome {
+        let (shape, class) = asked_words(word);
+        let good = Slip {
+            shape: words::shapes::good(shape).word,
+            class,
+            ..BLANK
+        };
+        let handed = sessions::open(in_front(shape, word), class, &mut self.page);
+        let refused = handed.refused;
+        let slip = handed.slip;
+        let stays = (self.page == self.twin) & (slip == BLANK);
+        let other = sessions::open(shape, class, &mut self.twin);
+        if refused == 0 {
+            self.slip = slip;
+        }
+        let lines = usize::from(good.shape != 0);
+        let right = Right {
+            twins: (self.page == self.twin) & (handed == other),
+            stays: (refused == 0) | stays,
+            comes: (refused != 0) | counted(slip, good, 0),
+            sums: conserved(self.slip, &self.page),
+            tells: (refused != 10) & ((refused != 0) | (slip.lines == lines)),
+        };
+        Outcome {
+            refused,
+            wrong: right.wrong(),
+        }
     }
 }

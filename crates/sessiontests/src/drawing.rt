@@ -25,37 +25,26 @@ pub fn below(word: u64, bound: usize) -> u32 {
 
 // A number in which now and then one bit is turned, so that it is wrong.
 fn turned(number: u32, word: u64) -> u32 {
-    number ^ (((word % 16 == 0) as u32) << ((word / 16) % 32))
+    number ^ (u32::from(word % 16 == 0) << ((word / 16) % 32))
 }
 
-// The slip of a call: for an opening its words are drawn, and a step has the slip at hand. A bit is turned now and
-// then.
-pub fn asked(opens: bool, slip: Slip, word: u64) -> Slip {
-    if !opens {
-        return Slip {
-            shape: slip.shape,
-            class: slip.class,
-            settled: slip.settled,
-            lines: slip.lines ^ (turned(0, word >> 48) as usize),
-            steps: slip.steps,
-            mode: slip.mode,
-        };
-    }
+// The words of an opening, a shape's and a class's. A bit is turned now and then.
+pub fn asked_words(word: u64) -> (u32, u32) {
     let degree = below(word, 17);
     let count = listing::section(degree).count;
+    let shape = listing::shape_at(degree, below(word >> 8, count));
+    let class = listing::class_at(degree, below(word >> 28, count));
+    (
+        turned(shape.word, word >> 20),
+        turned(class.word, word >> 44),
+    )
+}
+
+// The slip of a step or a save: the one at hand, in which a bit of its lines is turned now and then.
+pub fn asked(slip: Slip, word: u64) -> Slip {
     Slip {
-        shape: turned(
-            listing::shape_at(degree, below(word >> 8, count)).word,
-            word >> 20,
-        ),
-        class: turned(
-            listing::class_at(degree, below(word >> 28, count)).word,
-            word >> 44,
-        ),
-        settled: 0,
-        lines: 0,
-        steps: 0,
-        mode: pages::PLAIN,
+        lines: slip.lines ^ turned(0, word >> 48) as usize,
+        ..slip
     }
 }
 
@@ -91,6 +80,6 @@ pub fn drawn(slip: Slip, word: u64, page: &[u64; PAGE]) -> Strike {
     Strike {
         slip,
         line,
-        cycle: turned(u64::leading_zeros(class), word >> 40) as u64,
+        cycle: u64::from(turned(class.leading_zeros(), word >> 40)),
     }
 }

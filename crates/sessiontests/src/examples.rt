@@ -1,7 +1,7 @@
 // The runs of document 01, "Examples to prove (E) and to run", on pages of no word and of one, each step a preview on
 // marks and its commit; the text that P1's issue shows, and a page that is too long.
-use super::comparing::{blank, same_slip};
 use super::texts::{MARK, WORD, just_fits, marked, marked_words};
+use pages::BLANK;
 use words::CountAnswer;
 
 // No word: degree 0 opens with settled 1, and (1) on (1) is refused.
@@ -29,12 +29,10 @@ pub fn one_word() -> bool {
     let seen = told(sessions::preview(slip, &page, 0, 1, &mut strip), 0, 2);
     let other = sessions::commit(slip, &mut page, 0, 1, &short).refused;
     let full = sessions::commit(slip, &mut page, 0, 1, &strip).refused;
-    let front = (strip[0] == 0x1000_0000_6000_0000) & (strip[1] == 0x3000_0000_6000_0000);
     unseen
         & kept
         & seen
-        & front
-        & (strip[2] == WORD)
+        & (strip == [0x1000_0000_6000_0000, 0x3000_0000_6000_0000, WORD])
         & (other == 19)
         & (full == 10)
         & (page[0] == 0x2800_0000_7000_0000)
@@ -93,7 +91,7 @@ pub fn no_hook() -> bool {
 pub fn opened_in_front() -> bool {
     let mut page = [WORD; 2];
     let empty = sessions::open(0x4000_0000, 0, &mut page);
-    let cleared = (page[0] == 0) & (page[1] == 0);
+    let cleared = page == [0, 0];
     let opened = sessions::open(0x5600_0000, 0x1400_0000, &mut page);
     (empty.refused == 0)
         & (empty.slip.shape == 0)
@@ -102,8 +100,7 @@ pub fn opened_in_front() -> bool {
         & (opened.refused == 0)
         & (opened.slip.shape == 0x2C00_0000)
         & (opened.slip.lines == 1)
-        & (page[0] == 0x2C00_0000_1400_0000)
-        & (page[1] == 0)
+        & (page == [0x2C00_0000_1400_0000, 0])
 }
 
 // A slip or a line with a one in front is not sound.
@@ -128,14 +125,12 @@ pub fn put_away(text: &[u8]) -> bool {
     let struck = sessions::commit(slip, &mut page, 0, 3, &strip).slip;
     let mut back = [WORD; 3];
     let loaded = sessiontext::load(text, &mut back);
-    just_fits(struck, &page, text, text.len())
+    just_fits(struck, &page, text)
         & (page[0] == 0x9000_0000_2000_0000)
         & (loaded.refused == 0)
         & (loaded.line == 0)
-        & same_slip(loaded.slip, struck)
-        & (back[0] == page[0])
-        & (back[1] == 0)
-        & (back[2] == 0)
+        & (loaded.slip == struck)
+        & (back == [page[0], 0, 0])
 }
 
 // A page of 4,097 words is refused 6, by a load whatever its text is, and by a save whatever its slip is.
@@ -146,10 +141,10 @@ pub fn too_long() -> bool {
     let saved = sessiontext::save(loaded.slip, &page, &mut bytes);
     (loaded.refused == 6)
         & (loaded.line == 0)
-        & blank(loaded.slip)
+        & (loaded.slip == BLANK)
         & marked_words(&page)
         & told(saved, 6, 0)
-        & marked(&bytes, 0)
+        & marked(&bytes)
 }
 
 // Such a page is refused 6 by a preview and by a commit too.
@@ -162,6 +157,6 @@ pub fn too_long_to_strike() -> bool {
     told(seen, 6, 0)
         & marked_words(&strip)
         & (struck.refused == 6)
-        & blank(struck.slip)
+        & (struck.slip == BLANK)
         & marked_words(&page)
 }

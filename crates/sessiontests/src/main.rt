@@ -24,79 +24,30 @@ mod striking;
 mod strips;
 mod texts;
 
-use board::{REFUSALS, WRONG};
+use changes::Changes;
 use std::io;
 use testing::{Tally, print};
 
 // Texts with one byte changed, dropped or doubled, and cut short: how many were accepted, and how many each number from
 // 1 to 19 refused; and how many of these answers were right, how many wrong.
 fn print_changes(rt: &impl Print) -> io::Result<()> {
-    let mut board = [0u64; board::SIZE];
-    changes::all(
+    let mut changes = Changes::default();
+    changes.all(
         b"degree=5\nshape=3,2\nclass=3,2\nsteps=1\nsettled=0\nlines=1\nline=-;1,1;2\n",
         1,
-        &mut board,
     );
-    changes::all(
+    changes.all(
         b"degree=12\nshape=10,2\nclass=9,3\nsteps=4\nsettled=-12\nlines=2\nline=+;2,2;4\nline=-;10,1;6,5\n",
         2,
-        &mut board,
     );
-    board::print(
-        rt,
-        b"texts with a byte changed, 0 for accepted:",
-        &board,
-        changes::CHANGED,
-        REFUSALS,
-    )?;
-    board::print(
-        rt,
-        b"texts with a byte dropped:",
-        &board,
-        changes::DROPPED,
-        REFUSALS,
-    )?;
-    board::print(
-        rt,
-        b"texts with a byte doubled:",
-        &board,
-        changes::DOUBLED,
-        REFUSALS,
-    )?;
-    board::print(rt, b"texts cut short:", &board, changes::CUT, REFUSALS)?;
-    board::print(rt, b"right and wrong:", &board, WRONG, 2)
+    changes.print_all(rt)
 }
 
 // Lines of openings, previews, commits, saves and loads: how many were accepted, and how many each number from 1 to 19
 // refused. A line of calls by what was wrong: how many had nothing wrong, then 1 for the twin, 2 for a refused call, 4
 // for an accepted one, 8 for the sum, 16 for the refusal number, the number of lines or the line at fault, added up.
 fn print_run(rt: &impl Print) -> io::Result<()> {
-    let board = runs::all();
-    board::print(
-        rt,
-        b"openings, 0 for accepted:",
-        &board,
-        runs::OPENINGS,
-        REFUSALS,
-    )?;
-    board::print(rt, b"previews:", &board, runs::PREVIEWS, REFUSALS)?;
-    board::print(rt, b"commits:", &board, runs::COMMITS, REFUSALS)?;
-    board::print(rt, b"saves:", &board, runs::SAVES, REFUSALS)?;
-    board::print(rt, b"loads:", &board, runs::LOADS, REFUSALS)?;
-    board::print(
-        rt,
-        b"loads on pages of 0 to 24 words:",
-        &board,
-        runs::ELSEWHERE,
-        REFUSALS,
-    )?;
-    board::print(
-        rt,
-        b"calls by what was wrong, 0 for nothing:",
-        &board,
-        WRONG,
-        32,
-    )
+    runs::all().print_all(rt)
 }
 
 fn main(rt: HostRuntime) -> io::Result<()> {

@@ -1,8 +1,10 @@
 // Drawn saves of a run, with their checks. The twin gets each after the run has had it, as in `calls`: until then its
 // text has the bytes that the run's text had before.
+use super::calls::{Outcome, Right};
 use super::comparing::{Shown, watches};
 use super::drawing::{PAGE, asked, below};
-use super::parts::{same_behind, save_to};
+use super::parts::{behind, front, front_mut};
+use super::runs::Run;
 use super::texts::{ROOM, just_fits};
 use pages::Slip;
 
@@ -13,14 +15,6 @@ pub struct Saved {
     pub page: [u64; PAGE],
     pub shown: Shown,
     pub length: usize,
-}
-
-// A save's outcome: what is put away after it, the refusal number, and what was wrong (0: nothing).
-#[derive(Clone, Copy)]
-pub struct Kept {
-    pub saved: Saved,
-    pub refused: u8,
-    pub wrong: usize,
 }
 
 // The bytes lent to a save: mostly enough for any text, and now and then few.
@@ -42,45 +36,39 @@ fn has_room(slip: Slip, page: &[u64; PAGE], room: usize, refused: u8) -> bool {
     ((refused == 17) & (room < whole.count)) | ((refused == 0) & (whole.count <= room))
 }
 
-// A drawn save of a run's page. Now and then a bit of the slip is turned, or the bytes are few.
-pub fn save(
-    saved: Saved,
-    run: Slip,
-    word: u64,
-    page: &[u64; PAGE],
-    twin: &[u64; PAGE],
-    text: &mut [u8; ROOM],
-    other: &mut [u8; ROOM],
-) -> Kept {
-    let slip = asked(false, run, word);
-    let room = room(word);
-    let answer = save_to(slip, page, text, room);
-    let refused = answer.refused;
-    let length = answer.count;
-    let stays = same_behind(text, other, length) & ((refused == 0) | (length == 0));
-    let second = save_to(slip, twin, other, room);
-    let twins = same_behind(text, other, 0)
-        & (refused == second.refused)
-        & (length == second.count);
-    let wrong = (!twins as usize)
-        | ((!stays as usize) << 1)
-        | ((!has_room(slip, page, room, refused) as usize) << 4);
-    if refused != 0 {
-        return Kept {
-            saved,
-            refused,
-            wrong,
+impl Run {
+    // A drawn save. Now and then a bit of the slip is turned, or the bytes are few.
+    pub fn save(&mut self, word: u64) -> Outcome {
+        let slip = asked(self.slip, word);
+        let room = room(word);
+        let answer = sessiontext::save(slip, &self.page, front_mut(&mut self.text, room));
+        let refused = answer.refused;
+        let length = answer.count;
+        let stays = (behind(&self.text, length) == behind(&self.other, length))
+            & ((refused == 0) | (length == 0));
+        let second = sessiontext::save(slip, &self.twin, front_mut(&mut self.other, room));
+        let twins = (self.text == self.other)
+            & (refused == second.refused)
+            & (length == second.count);
+        let exact = refused != 0 || just_fits(slip, &self.page, front(&self.text, length));
+        if refused == 0 {
+            self.saved = Saved {
+                slip,
+                page: self.page,
+                shown: watches(slip, &self.page),
+                length,
+            };
+        }
+        let right = Right {
+            twins,
+            stays,
+            comes: exact,
+            sums: true,
+            tells: has_room(slip, &self.page, room, refused),
         };
-    }
-    let exact = just_fits(slip, page, text, length);
-    Kept {
-        saved: Saved {
-            slip,
-            page: *page,
-            shown: watches(slip, page),
-            length,
-        },
-        refused,
-        wrong: wrong | ((!exact as usize) << 2),
+        Outcome {
+            refused,
+            wrong: right.wrong(),
+        }
     }
 }

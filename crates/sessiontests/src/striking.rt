@@ -1,5 +1,6 @@
 // What comes of a line that is struck, found without the library: in words of 32 bits, of which bit 30 is digit 1.
 use super::drawing::{PAGE, Strike};
+use super::parts::front;
 use pages::Slip;
 
 // What must come of a strike: why it is refused (0: it is not), how many new lines there are, and their words.
@@ -7,55 +8,61 @@ use pages::Slip;
 pub struct New {
     pub refused: u8,
     pub count: usize,
-    pub lines: [u64; PAGE],
+    words: [u64; PAGE],
 }
 
-// The sign digit: a word that is no class.
+impl New {
+    pub fn lines(&self) -> &[u64] {
+        front(&self.words, self.count)
+    }
+}
+
+// The sign digit.
 const SIGN: u64 = 0x8000_0000;
 
-// A class without a cycle, `SIGN` where it has no such cycle. A cycle starts in front or after a one, and the next one
-// ends it. Cycles do not rise: where a one ends a cycle of this length, no earlier cycles add up to it.
-fn without(class: u64, cycle: u64) -> u64 {
+// A class without a cycle, where it has such a cycle. A cycle starts in front or after a one, and the next one ends it.
+// Cycles do not rise: where a one ends a cycle of this length, no earlier cycles add up to it.
+fn without(class: u64, cycle: u64) -> Option<u64> {
     let length = cycle % 32;
     let ends = class | SIGN;
-    let start = u64::leading_zeros((ends & (ends << length)) << 32) % 64;
+    let start = ((ends & (ends << length)) << 32).leading_zeros() % 64;
     let behind = 0x7FFF_FFFF >> start;
-    let end = u64::leading_zeros((class & behind) << 32);
+    let end = ((class & behind) << 32).leading_zeros();
     if (length != cycle) | (end != start + length as u32) {
-        return SIGN;
+        return None;
     }
-    (class & !behind) | ((class << length) & behind)
+    Some((class & !behind) | ((class << length) & behind))
 }
 
-// The line that a hook leaves, its class being given; 0 where the shape has no zero there, or no one so far behind it.
-fn hook(word: u64, class: u64, zero: u64, length: u64) -> u64 {
+// The line that a hook leaves, its class being given, where the shape has a zero there and a one so far behind it.
+fn hook(word: u64, class: u64, zero: u64, length: u64) -> Option<u64> {
     let shape = (word >> 32) % 0x8000_0000;
     let one = zero >> (length % 32);
     if (one == 0) | (shape & (zero | one) != one) {
-        return 0;
+        return None;
     }
-    let between = std::num::wrapping_sub_u64(zero, one);
-    let turns = (u64::count_ones(!shape & between) % 2) as u64;
+    let between = zero.wrapping_sub(one);
+    let turns = u64::from((!shape & between).count_ones() % 2);
     let taken = shape ^ zero ^ one;
-    let front = u64::leading_zeros(!(taken << 33)) % 64;
-    (((word >> 63) ^ turns) << 63) | (((taken << front) % 0x8000_0000) << 32) | class
+    let front = (!(taken << 33)).leading_zeros() % 64;
+    Some((((word >> 63) ^ turns) << 63) | (((taken << front) % 0x8000_0000) << 32) | class)
 }
 
 // The new lines of a line, in hook order. Where no class is left every hook leaves the empty shape, and there are none.
 fn new_lines(word: u64, class: u64, length: u64) -> New {
-    let mut lines = [0u64; PAGE];
-    let mut count = 0;
-    let mut digit = 1u64;
-    while digit < 32 {
-        let line = hook(word, class, SIGN >> digit, length);
-        lines[count % PAGE] = line;
-        count = std::num::wrapping_add_usize(count, ((line != 0) & (class != 0)) as usize);
-        digit += 1;
+    let mut words = [0; PAGE];
+    let mut count = 0usize;
+    if class != 0 {
+        let lines = (1..32).filter_map(|digit| hook(word, class, SIGN >> digit, length));
+        for (place, line) in words.iter_mut().zip(lines) {
+            *place = line;
+            count = count.wrapping_add(1);
+        }
     }
     New {
         refused: 0,
         count,
-        lines,
+        words,
     }
 }
 
@@ -63,7 +70,7 @@ fn refused(number: u8) -> New {
     New {
         refused: number,
         count: 0,
-        lines: [0u64; PAGE],
+        words: [0; PAGE],
     }
 }
 
@@ -73,15 +80,14 @@ pub fn struck(run: Slip, strike: Strike, page: &[u64; PAGE]) -> New {
     let lines = strike.slip.lines;
     let line = strike.line;
     let word = page[line % PAGE];
-    let class = without(word % 0x1_0000_0000, strike.cycle);
     if lines != run.lines {
         return refused(7);
     }
     if lines <= line {
         return refused(8);
     }
-    if class == SIGN {
-        return refused(9);
+    match without(word % 0x1_0000_0000, strike.cycle) {
+        Some(class) => new_lines(word, class, strike.cycle),
+        None => refused(9),
     }
-    new_lines(word, class, strike.cycle)
 }

@@ -7,7 +7,7 @@ pub const STRIP: usize = 24;
 // The words lent of a strip, for so many new lines: mostly all or just enough; else one too few, none, or any number.
 pub fn room(count: usize, word: u64) -> usize {
     match word % 32 {
-        0 => std::num::wrapping_sub_usize(count, 1),
+        0 => count.wrapping_sub(1),
         1 => 0,
         2 => below(word >> 5, STRIP + 1) as usize,
         3..=12 => count,
@@ -22,33 +22,18 @@ pub fn handed(left: [u64; STRIP], before: [u64; STRIP], count: usize, word: u64)
     let mut strip = left;
     let drawn = below(word >> 4, count);
     let place = drawn as usize % STRIP;
-    let next = below(drawn as u64 + 1, count) as usize % STRIP;
-    if word % 16 == 0 {
-        return before;
-    }
-    if word % 16 == 1 {
-        strip[place] = left[place] ^ (1 << ((word >> 16) % 64));
-    }
-    if word % 16 == 2 {
-        strip[place] = left[next];
-        strip[next] = left[place];
+    let next = below(u64::from(drawn) + 1, count) as usize % STRIP;
+    match word % 16 {
+        0 => strip = before,
+        1 => strip[place] ^= 1 << ((word >> 16) % 64),
+        2 => strip.swap(place, next),
+        _ => {}
     }
     strip
 }
 
-// Whether a strip has so many of these lines in front, and behind them what another strip has.
-pub fn holds(
-    strip: &[u64; STRIP],
-    lines: &[u64; PAGE],
-    count: usize,
-    other: &[u64; STRIP],
-) -> bool {
-    let mut all = true;
-    let mut i = 0;
-    while i < STRIP {
-        let expected = if i < count { lines[i % PAGE] } else { other[i] };
-        all = all & (strip[i] == expected);
-        i += 1;
-    }
-    all
+// Whether a strip has these lines in front, and behind them what another strip has.
+pub fn holds(strip: &[u64; STRIP], lines: &[u64], other: &[u64; STRIP]) -> bool {
+    let mut behind = strip.iter().zip(other).skip(lines.len());
+    strip.starts_with(lines) & behind.all(|(word, before)| word == before)
 }

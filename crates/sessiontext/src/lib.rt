@@ -30,7 +30,7 @@ mod writing;
 const HEAD_ROOM: usize = 256;
 
 // A slip with the refusal number beside it and, where that is 16, the text's line that is at fault, from 1.
-#[derive(Clone, Copy)]
+#[derive(Clone, Copy, PartialEq, Eq)]
 pub struct Loaded {
     pub refused: u8,
     pub line: usize,

@@ -1,2 +1,1 @@
-mod Whole
 pub mod Unique

@@ -3,15 +3,15 @@
 
 #![tactic(auto)]
 
-ghost use Rattle.std.specs.Prelude.{◌≡◌};
-ghost use Rattle.testing.specs.Tallies.{none, counted};
+ghost use Rattle.std.specs.Prelude.{◌≡◌, Some};
+ghost use Rattle.testing.specs.Tallies.{none, counted, told};
 
-use std::io;
+use std::{fmt, io};
 
 pub mod numbers;
 
 // How many cases of a check were run, and how many of them were wrong.
-#[derive(Clone, Copy)]
+#[derive(Clone, Copy, Default)]
 pub struct Tally {
     pub cases: u64,
     pub wrong: u64,
@@ -29,9 +29,18 @@ impl Tally {
         ensures { result ≡ counted self right }
     {
         Tally {
-            cases: std::num::wrapping_add_u64(self.cases, 1),
-            wrong: std::num::wrapping_add_u64(self.wrong, !right as u64),
+            cases: self.cases.wrapping_add(1),
+            wrong: self.wrong.wrapping_add(u64::from(!right)),
         }
+    }
+}
+
+impl fmt::Display for Tally {
+    ghost output = { λ tally. Some (told tally) };
+
+    fn fmt<W: fmt::Write>(&self, f: &mut fmt::Formatter<W>) -> fmt::Result {
+        let Tally { cases, wrong } = self;
+        write!(f, "{cases} cases, {wrong} wrong")
     }
 }
 
@@ -39,7 +48,6 @@ impl Tally {
 pub fn print(rt: &impl Print, name: &[u8], tally: Tally) -> io::Result<()>
     ensures { Unit {0} }
 {
-    let Tally { cases, wrong } = tally;
     rt.write_all(name)?;
-    println!(rt; ": {cases} cases, {wrong} wrong")
+    println!(rt; ": {tally}")
 }

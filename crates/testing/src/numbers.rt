@@ -14,7 +14,7 @@ const HIGH: i64 = 0x4000_0000_0000_0000;
 pub fn natural(number: i64) -> u64
     ensures { result ≡ natural_of number }
 {
-    if number < 0 { 0 } else { number as u64 }
+    u64::try_from(number).unwrap_or(0)
 }
 
 // n!, and 0 above 20.
@@ -25,10 +25,8 @@ pub fn factorial(n: u8) -> u64
         return 0;
     }
     let mut product = 1u64;
-    let mut i = 0u8;
-    while i < n {
-        i += 1;
-        product *= i as u64;
+    for i in 1..=n {
+        product *= u64::from(i);
     }
     product
 }

@@ -1,5 +1,5 @@
 -- From a promised answer to what its caller learns: the number that refused, and if none did, what was given.
---   FrontGiven xs r after   the answer r has the count of xs, and xs stand at the front of the column
+--   FrontGiven xs r after   the answer r refuses nothing and has the count of xs, which stand at the column's front
 use Rattle.std.specs.Prelude.{◌∷◌, ◌++◌}
 use mathlib.Core.Path.{◌≡◌, refl, ◌∙◌, ap, ap₂}
 use Prim.Native.Nat.{◌≤◌}
@@ -48,6 +48,7 @@ module _ (checks : List Check) (z : ℤ) (a : NumberAnswer) (e : a ≡ numbered 
 
 -- ---- a column that has room for what is written
 pub record FrontGiven {A : Type 0} (xs : List A) (r : CountAnswer) (after : List A) : Type 0 where
+  pub none : r.refused ≡ 0
   pub count : r.count ≡ length xs
   pub inside : r.count ≤ length after
   pub front : take r.count after ≡ xs
@@ -86,6 +87,7 @@ module _ {A : Type 0} (checks : List Check) (short : ℕ) (xs column : List A) (
         let count = ap (λ (x : Answer). x.0.count) e in
         let whole = ap (λ (x : Answer). x.1) e in
         record {
+          none = ap (λ (x : Answer). x.0.refused) e;
           count = count;
           inside = rw (count, whole, length-append) (omega arith);
           front = ap₂ (λ (k : ℕ) (l : List A). take k l) count whole ∙ take_at xs _ (length xs) refl;

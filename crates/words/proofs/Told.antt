@@ -2,7 +2,7 @@
 -- are told alike.
 use mathlib.Core.Path.{◌≡◌, refl, sym, ◌∙◌, ap}
 use native.Mathlib.Omega.{arith}
-use Rattle.std.specs.Prelude.{⊤}
+use Rattle.std.specs.Prelude.{⊤, IsOk}
 use borrow.Author.Tests.{clash}
 use denote.Enum.Bare.{same_true, same_false}
 use Rattle.std.specs.Result.{result_eq, result_unwrap_or}
@@ -153,6 +153,10 @@ degree-or_0 (Err e) = refl
 pub given-where : {A : Type 0} (r : Result A Refusal) → refusal_of r ≡ 0 → (x : A) × (r ≡ Ok x)
 given-where (Ok x) z = (x, refl)
 given-where (Err e) z = absurd (refuses e z)
+
+pub is-given : {A : Type 0} (r : Result A Refusal) → refusal_of r ≡ 0 → IsOk r
+is-given (Ok x) z = refl
+is-given (Err e) z = absurd (refuses e z)
 
 -- a test for one refusal
 module _ {A : Type 0} (one : A → A → Bool) (r : Result A Refusal) (e : Refusal) where

@@ -3,42 +3,21 @@ use testing::numbers::natural;
 
 // Whether the number of even parts is even.
 fn is_plus(parts: &[u8]) -> bool {
-    let mut plus = true;
-    let mut i = 0;
-    while i < parts.len() {
-        if parts[i] % 2 == 0 {
-            plus = !plus;
-        }
-        i += 1;
-    }
-    plus
+    parts.iter().filter(|part| **part % 2 == 0).count() % 2 == 0
 }
 
 // Whether every cycle of a class is back where it began when an element has been repeated so many times.
 fn is_back(parts: &[u8], times: u64) -> bool {
-    let mut i = 0;
-    while i < parts.len() {
-        let part = parts[i] as u64;
-        if part != 0 {
-            if times % part != 0 {
-                return false;
-            }
-        }
-        i += 1;
-    }
-    true
+    parts
+        .iter()
+        .all(|part| *part == 0 || times % u64::from(*part) == 0)
 }
 
 // After how many times an element of a class first is back, tried one time after the other; 0 if not within 1,000.
 fn first_back(parts: &[u8]) -> u64 {
-    let mut times = 1u64;
-    while times <= 1_000 {
-        if is_back(parts, times) {
-            return times;
-        }
-        times += 1;
-    }
-    0
+    (1..=1_000)
+        .find(|times| is_back(parts, *times))
+        .unwrap_or(0)
 }
 
 pub fn sign_agrees(word: u32, parts: &[u8]) -> bool {

@@ -1,28 +1,12 @@
 // The conjugate of a shape, against the transposed partition by counting rows.
 use super::columns::{Kind, written};
 
-fn wide(part: u8) -> usize {
-    part as usize
-}
-
-// One more in as many rows as a part is long.
-fn lengthen(rows: &mut [u8], part: usize) {
-    let mut i = 0;
-    while i < rows.len() {
-        if part <= i {
-            break;
-        }
-        rows[i] = std::num::wrapping_add_u8(rows[i], 1);
-        i += 1;
-    }
-}
-
-// The transposed partition, to rows of zeros.
+// The transposed partition, to rows of zeros: one more in as many rows as each part is long.
 fn transpose(parts: &[u8], rows: &mut [u8]) {
-    let mut i = 0;
-    while i < parts.len() {
-        lengthen(rows, wide(parts[i]));
-        i += 1;
+    for part in parts {
+        for row in rows.iter_mut().take(usize::from(*part)) {
+            *row = row.wrapping_add(1);
+        }
     }
 }
 
@@ -30,11 +14,9 @@ fn transpose(parts: &[u8], rows: &mut [u8]) {
 fn turns(word: u32, parts: &[u8]) -> bool {
     let mut rows = [0u8; 17];
     transpose(parts, &mut rows);
-    let longest = if 0 < parts.len() { wide(parts[0]) } else { 0 };
-    if 17 < longest {
-        return false;
-    }
-    written(Kind::Shape, word, &rows[..longest], longest)
+    let longest = parts.first().map_or(0, |part| usize::from(*part));
+    rows.get(..longest)
+        .is_some_and(|turned| written(Kind::Shape, word, turned, longest))
 }
 
 // Whether the conjugate of a shape word is the transposed partition, and the conjugate of that is the word again.

@@ -12,7 +12,7 @@ fn agrees(good: u32, word: u32, ones: u32, parts: &[u8], n: u8) -> bool {
         & (told.word == good)
         & (told.dropped == ones)
         & (degree.refused == 0)
-        & (degree.number == n as i64)
+        & (degree.number == i64::from(n))
         & written(Kind::Shape, word, parts, parts.len())
         & (turned.refused == 0)
         & (turned.word == words::shapes::conjugate(good).word)
@@ -25,13 +25,11 @@ fn agrees(good: u32, word: u32, ones: u32, parts: &[u8], n: u8) -> bool {
 pub fn meet(found: Tally, good: u32, parts: &[u8], n: u8) -> Tally {
     let mut t = found;
     let mut word = good;
-    let mut ones = 0u32;
-    while ones < 31 {
+    for ones in 1..=31 {
         if word % 2 == 1 {
             break;
         }
         word = word / 2 + 0x4000_0000;
-        ones += 1;
         t = t.add(agrees(good, word, ones, parts, n));
     }
     t

@@ -1,47 +1,52 @@
-// The partitions of a degree in decreasing lexicographic order, each at the front of a lent run.
-ghost use Rattle.std.specs.Prelude.{◌≤◌, length};
-ghost use Rattle.io.specs.Counts.{IsPrefixLen};
+// The partitions of a degree up to 16 in decreasing lexicographic order.
+ghost use Rattle.std.specs.Prelude.{◌≤◌};
 
-fn least(a: u8, b: u8) -> u8
-    ensures { result ≤ b }
-{
-    if b < a { b } else { a }
+// The greatest number of parts.
+const MOST: usize = 16;
+
+// A partition: its parts stand in front.
+#[derive(Clone, Copy)]
+pub struct Partition {
+    row: [u8; MOST],
+    count: usize,
+    ghost within: { count ≤ 16 },
 }
 
-// From a place on, the longest parts that are at most `longest` and sum to `left`: from 0 on, with n for both, the
-// first partition of n. The count of all parts is the answer.
-pub fn fill(parts: &mut [u8], from: usize, longest: u8, left: u8) -> usize
-    requires { from ≤ length parts.old }
-    ensures { IsPrefixLen result parts.new }
+// From a place on, the longest parts that are at most `longest` and sum to `left`.
+fn filled(mut row: [u8; MOST], from: usize, longest: u8, mut left: u8) -> Partition
+    requires { from ≤ 16 }
 {
-    let mut at = from;
-    let mut left = left;
-    while at < parts.len() {
+    for at in from..MOST {
         if left == 0 {
-            return at;
+            return Partition { row, count: at };
         }
-        let part = least(longest, left);
-        parts[at] = part;
+        let part = longest.min(left);
+        row[at] = part;
         left -= part;
-        at += 1;
     }
-    at
+    Partition { row, count: MOST }
 }
 
-// The partition that follows: the last part above 1 falls by one. After the last partition the count is 0.
-pub fn next(parts: &mut [u8], count: usize) -> usize
-    requires { count ≤ length parts.old }
-    ensures { IsPrefixLen result parts.new }
-{
-    let mut at = count;
-    let mut left = 0u8;
-    while 0 < at {
-        at -= 1;
-        let part = parts[at];
-        left = std::num::wrapping_add_u8(left, part);
-        if 1 < part {
-            return fill(parts, at, part - 1, left);
-        }
+impl Partition {
+    // The first partition of n has one part, or none where n is 0.
+    pub fn first(n: u8) -> Partition {
+        filled([0; MOST], 0, n, n)
     }
-    0
+
+    pub fn parts(&self) -> &[u8] {
+        &self.row[..self.count]
+    }
+
+    // The partition that follows: the last part above 1 falls by one. None follows the last.
+    pub fn next(&self) -> Option<Partition> {
+        let mut left = 0u8;
+        for at in (0..self.count).rev() {
+            let part = self.row[at];
+            left = left.wrapping_add(part);
+            if 1 < part {
+                return Some(filled(self.row, at, part - 1, left));
+            }
+        }
+        None
+    }
 }

@@ -1,0 +1,20 @@
+-- `characters::watches::watch_refusal`: slip and page come first, then kind and line.
+use Rattle.std.proofs.lemmas.Result.{err_from_is_err_and}
+use Rattle.std.proofs.Common.{sym}
+use Rattle.theory.specs.Limits.{degree_limit}
+use Rattle.pages.specs.Lawful.Plain.{plain-lawful}
+use Rattle.words.proofs.Told.{refuses}
+use Rattle.characters.proofs.WatchLaws.{page-first, kind-first}
+use Rattle.characters.proofs.watches.watch_refusal.Goals as goal
+
+pub returns-in_err-refusal : goal.returns-in_err-refusal
+returns-in_err-refusal c =
+    let p = err_from_is_err_and c.from_residual.result c.from_residual.ensures.1 in
+    let a = c.args in
+    rw (p.1, p.2) (page-first plain-lawful degree_limit a.slip a.page.now a.kind a.line _ c.in_err-refusal.ensures (refuses _))
+
+pub returns : goal.returns
+returns c =
+    let a = c.args in
+    kind-first plain-lawful degree_limit a.slip a.page.now a.kind a.line _ c.kind_refusal.ensures
+    (sym c.in_ok-refusal.ensures)

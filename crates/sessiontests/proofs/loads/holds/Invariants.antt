@@ -1,9 +1,0 @@
--- `sessiontests::loads::holds` is safe and ends. The index rises to 24.
-use Rattle.std.proofs.Common.{◌-◌, ◌≤◌}
-use Rattle.sessiontests.proofs.loads.holds.Given as goal
-
-abbrev pub invariant-loop-i : goal.invariant-loop-i
-invariant-loop-i l = l.i ≤ 24
-
-abbrev pub decreases-loop-i : goal.decreases-loop-i
-decreases-loop-i l = 24 - l.i

@@ -1,6 +1,7 @@
 -- A cycle struck from a class word while its parts are read: what has been read stays, what is left goes without it.
---   Striking w cycle left rest ps   of the class word w `left` digits are left, and the number `rest` in them; its parts
---                                   are ps, and none of the parts before them is the cycle
+--   Striking w cycle left rest ps   of the class word w `left` digits are left, and the number `rest` in them; its
+--                                   parts are ps, and none of the parts before them is the cycle
+--   PartRead w cycle left rest p b qs   what is known where the part p stands before the parts qs, and b is its one
 use Rattle.std.specs.Prelude.{◌≡◌, ◌<◌, ◌≤◌, ◌∷◌, ◌+◌, ◌-◌, ◌*◌, ◌%◌, ◌^◌, None, Some}
 use Rattle.std.proofs.Common.{refl, sym, ap, ◌∙◌, arith, eq-eqb, ne_eqb, mod-eq_of_lt, pow_mono, shl_lt}
 use Rattle.theory.specs.Basics.{true, false, [], ℕ}

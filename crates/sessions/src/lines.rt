@@ -48,19 +48,14 @@ pub fn strip(line: u64, cycle: u32, class: u32, strip: &mut [u64]) -> HookLines
 {
     let shape = linewords::shape(line);
     let minus = linewords::minus(line);
-    let mut marks = hooks::marks(shape, cycle);
     let mut count = 0;
     let mut settled = 0i64;
-    while marks != 0 {
-        let zero = 1u32 << (31 - u32::leading_zeros(marks));
-        let stretch = hooks::stretch(zero, cycle);
-        let leaves = hooks::leaves(shape, stretch);
-        let sign = product(minus, hooks::minus(shape, stretch));
-        marks -= zero;
-        if leaves == 0 {
+    for hook in hooks::of(shape, cycle) {
+        let sign = product(minus, hook.minus);
+        if hook.leaves == 0 {
             settled += hooks::sign(sign);
         } else {
-            strip[count] = linewords::word(sign, leaves, class);
+            strip[count] = linewords::word(sign, hook.leaves, class);
             count += 1;
         }
     }

@@ -4,11 +4,11 @@
 --   PartRead w cycle left rest p b qs   what is known where the part p stands before the parts qs, and b is its one
 use Rattle.std.specs.Prelude.{◌≡◌, ◌<◌, ◌≤◌, ◌∷◌, ◌+◌, ◌-◌, ◌*◌, ◌%◌, ◌^◌, None, Some}
 use Rattle.std.proofs.Common.{refl, sym, ap, ◌∙◌, arith, eq-eqb, ne_eqb, mod-eq_of_lt, pow_mono, shl_lt}
-use Rattle.theory.specs.Basics.{true, false, [], ℕ}
+use Rattle.theory.specs.Basics.{[], ℕ}
 use Rattle.theory.specs.Partition.{Parts, degree, times, without}
 use Rattle.theory.specs.Partition.Laws.{NoZero, some}
 use Rattle.theory.specs.Digits.{digits, word}
-use Rattle.theory.proofs.Digits.Laws.{one_shifted, word_none, word_below, length_digits}
+use Rattle.theory.proofs.Digits.Laws.{one_shifted, word_below, length_digits}
 use Rattle.theory.specs.ClassWord.{class_digits, class_word, class_of}
 use Rattle.theory.proofs.ClassWord.Laws.{class-word-front, parts-word, parts-no-zero, degree-parts, word-of-class}
 use Rattle.theory.proofs.ClassWord.Reading.{word_moved}

@@ -4,8 +4,8 @@ use Rattle.std.specs.Prelude.{◌∷◌, Option, None, Some, ok_or}
 use mathlib.Core.Path.{◌≡◌, refl, sym, ◌∙◌, ap}
 use Prim.Native.Nat.{◌≤◌, ◌<◌}
 use native.Mathlib.Omega.{arith}
-use borrow.Author.Tests.{le-leb, lt-leb, not-false, not-true}
-use Rattle.theory.specs.Basics.{Bool, true, false, not, List, [], get_or, ℕ, ◌=?◌}
+use borrow.Author.Tests.{le-leb, lt-leb}
+use Rattle.theory.specs.Basics.{Bool, true, false, List, [], get_or, ℕ, ◌=?◌}
 use Rattle.theory.specs.Partition.{times, without}
 use Rattle.theory.specs.ClassWord.{class_word, class_of}
 use Rattle.theory.specs.Refusals.{Check, first_of, no-8, no_9}

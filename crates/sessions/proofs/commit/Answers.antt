@@ -1,10 +1,7 @@
 -- `sessions::commit` meets its contract: each return is the first check that applies, or the line exchanged for its hook
 -- lines.
 use borrow.Author.Rules.{rules}
-use Rattle.std.specs.Prelude.{◌∷◌, ◌-◌, ◌+◌, ◌≡◌}
-use Rattle.std.proofs.Common.{refl, sym, ap, ◌∙◌, ◌≤◌, arith, length-take-le}
-use Rattle.theory.specs.Basics.{not, [], length, ◌<?◌}
-use Rattle.theory.specs.Refusals.{first_of}
+use Rattle.std.proofs.Common.{refl, sym, ◌≤◌, arith, length-take-le}
 use Rattle.theory.specs.Limits.{degree_limit}
 use Rattle.theory.specs.Bounds.Laws.{largest_limit}
 use Rattle.words.proofs.Told.{refuses}

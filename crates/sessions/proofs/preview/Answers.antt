@@ -4,7 +4,7 @@ use Rattle.std.proofs.lemmas.Result.{err_from_is_err_and}
 use Rattle.theory.specs.Limits.{degree_limit}
 use Rattle.theory.specs.Bounds.Laws.{largest_limit}
 use Rattle.words.proofs.Told.{refuses}
-use Rattle.sessions.proofs.Strikes.{Hooked, hooked, not-previewed, too_short, previewed}
+use Rattle.sessions.proofs.Strikes.{hooked, not-previewed, too_short, previewed}
 use Rattle.sessions.proofs.preview.Goals as goal
 
 small : degree_limit ≤ largest_limit

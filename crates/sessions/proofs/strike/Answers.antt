@@ -1,16 +1,12 @@
 -- `sessions::strike` meets its contract: it is refused as line and cycle are, or the new lines are on the strip.
 use Rattle.std.proofs.Common.{refl, ◌≤◌, arith}
 use Rattle.std.proofs.lemmas.Result.{err_from_is_err_and}
-use Rattle.std.specs.declared.result.Result.TheVariants.{Ok, Err}
-use Rattle.theory.specs.Basics.{ℕ, replicate}
+use Rattle.theory.specs.Basics.{replicate}
 use Rattle.theory.specs.Limits.{degree_limit}
 use Rattle.theory.specs.Bounds.Laws.{largest_limit}
-use Rattle.words.specs.Answers.{word_told}
 use Rattle.words.proofs.Told.{refuses}
-use Rattle.pages.specs.declared.Slip.{Slip}
-use Rattle.sessions.specs.Private.ClassLeft.{class_left_of}
 use Rattle.sessions.proofs.Strips.{cycle-short}
-use Rattle.sessions.proofs.Steps.{Chosen, chosen_by}
+use Rattle.sessions.proofs.Steps.{chosen_by}
 use Rattle.sessions.proofs.Strikes.{strike-refused, strikes, struck-onto}
 use Rattle.sessions.proofs.strike.Goals as goal
 

@@ -20,7 +20,7 @@ pub const GATHERED: u32 = 1;
 
 // A session's slip: the shape and the class asked for, the settled sum, the number of lines that wait, the steps, and
 // the mode.
-#[derive(Clone, Copy, PartialEq, Eq)]
+#[derive(Clone, Copy, Debug, PartialEq, Eq)]
 pub struct Slip {
     pub shape: u32,
     pub class: u32,

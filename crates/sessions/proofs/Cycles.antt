@@ -2,18 +2,18 @@
 --   Striking w cycle left rest ps   of the class word w `left` digits are left, and the number `rest` in them; its
 --                                   parts are ps, and none of the parts before them is the cycle
 --   PartRead w cycle left rest p b qs   what is known where the part p stands before the parts qs, and b is its one
-use Rattle.std.specs.Prelude.{◌≡◌, ◌<◌, ◌≤◌, ◌∷◌, ◌+◌, ◌-◌, ◌*◌, ◌%◌, ◌^◌}
+use Rattle.std.specs.Prelude.{◌≡◌, ◌<◌, ◌≤◌, ◌∷◌, ◌+◌, ◌-◌, ◌*◌, ◌%◌, ◌^◌, None, Some}
 use Rattle.std.proofs.Common.{refl, sym, ap, ◌∙◌, arith, eq-eqb, ne_eqb, mod-eq_of_lt, pow_mono, shl_lt}
 use Rattle.std.proofs.Math.Pow.{low, mod-mod-pow}
-use Rattle.theory.specs.Basics.{true, false, [], ℕ}
+use Rattle.theory.specs.Basics.{[], ℕ}
 use Rattle.theory.specs.Partition.{Parts, degree, times, without}
 use Rattle.theory.specs.Partition.Laws.{NoZero, some}
 use Rattle.theory.specs.Digits.{digits, word}
-use Rattle.theory.proofs.Digits.Laws.{one_shifted, word_none, word_below, length_digits}
+use Rattle.theory.proofs.Digits.Laws.{one_shifted, word_below, length_digits}
 use Rattle.theory.specs.ClassWord.{class_digits, class_word, class_of}
 use Rattle.theory.proofs.ClassWord.Laws.{class-word-front, parts-word, parts-no-zero, degree-parts, word-of-class}
 use Rattle.theory.proofs.ClassWord.Reading.{word_moved}
-use Rattle.sessions.specs.Private.Striking.{without_cycle, class_without}
+use Rattle.sessions.specs.Private.Striking.{class_without}
 
 pub record Striking (w cycle left rest : ℕ) (ps : Parts) : Type 0 where
   pub parts : NoZero ps
@@ -39,13 +39,9 @@ strike-start w cycle l e =
 
 -- no part is left
 pub strike-end : {w cycle left rest : ℕ} {ps : Parts} → Striking w cycle left rest ps → ps ≡ []
-    → without_cycle false w ≡ class_without cycle w
+    → None ≡ class_without cycle w
 unfolding class_without
-strike-end {w} {cycle} {left} {rest} s none =
-    let reads : rest ≡ word left [] = rw none at s.reads in
-    let makes : class_word (without cycle (class_of w)) ≡ w - rest + word left [] = rw none at s.makes in
-    let same : class_word (without cycle (class_of w)) ≡ w = omega (arith, word_none left, s.inside) in
-    rw (same, s.counts, none)
+strike-end s none = rw (s.counts, none)
 
 -- parts moved up
 moved : (n k : ℕ) {ps : Parts} → NoZero ps → degree ps ≤ n
@@ -113,7 +109,7 @@ part-read {w} {cycle} {left} {rest} {p} {ps} {qs} s e =
     })
 
 pub strike-hit : {w cycle left rest p b : ℕ} {qs : Parts} → PartRead w cycle left rest p b qs → p ≡ cycle
-    → without_cycle true (w - rest + (rest - b) * 2 ^ p % 2 ^ 32) ≡ class_without cycle w
+    → Some (w - rest + (rest - b) * 2 ^ p % 2 ^ 32) ≡ class_without cycle w
 unfolding class_without
 strike-hit {w} {cycle} r h = rw (← r.hit h, ne_eqb (times cycle (class_of w)) 0 (r.found h)) refl
 

@@ -5,4 +5,5 @@ pub mod Openings
 pub mod Step
 pub mod Steps
 pub mod Strikes
+pub mod Told
 pub mod Unique

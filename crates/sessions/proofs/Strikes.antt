@@ -20,7 +20,7 @@ use Rattle.theory.proofs.Bounds.Laws.{S-rises}
 use Rattle.theory.specs.Refusals.{Check, first_of, no-10, no-18, no-19}
 use Rattle.theory.proofs.Refusals.Laws.{none-applies, first-refuses, first_passes, or-refused, answer-number}
 use Rattle.theory.proofs.Refusals.Laws.{answer-given}
-use Rattle.words.specs.Answers.{CountAnswer}
+use Rattle.words.specs.Answers.{CountAnswer, WordAnswer}
 use Rattle.words.specs.Answers.{Outcome, count_answer, at_front}
 use Rattle.words.proofs.Factorials.{factorial-fits}
 use Rattle.pages.specs.Line.{Line}
@@ -35,8 +35,6 @@ use Rattle.pages.specs.Sound.Bounds.{asked-within}
 use Rattle.pages.proofs.Signed.{carried, carried-is}
 use Rattle.pages.proofs.SoundPages.{line_word, sound-line-at}
 use Rattle.sessions.specs.declared.lines.HookLines.{HookLines}
-use Rattle.sessions.specs.declared.ClassLeft.{ClassLeft}
-use Rattle.sessions.specs.declared.Struck.{Struck}
 use Rattle.sessions.specs.Opening.{handed, Handed}
 use Rattle.sessions.specs.Step.{settled_hooks, waiting_hooks, next_lines_in, next_slip_in, preview_in, commit_in}
 use Rattle.sessions.specs.Step.{next_lines, next_slip, named_checks, new_lines, preview, commit_checks, commit}
@@ -46,7 +44,7 @@ use Rattle.sessions.proofs.Step.Previews.{few-new}
 use Rattle.sessions.specs.Private.ClassLeft.{class_left_of}
 use Rattle.sessions.specs.Private.Pages.{others, Exchanges, exchanged}
 use Rattle.sessions.specs.Private.Striking.{Strikes, stripped}
-use Rattle.sessions.specs.Private.Struck.{struck, struck_onto}
+use Rattle.sessions.specs.Private.Struck.{Struck, struck, struck_onto}
 use Rattle.sessions.proofs.Steps.{number}
 
 module _ (limit : ℕ) (small : limit ≤ largest_limit) (slip : Slip) (page : List ℕ) (line cycle : ℕ) where
@@ -73,7 +71,7 @@ module _ (limit : ℕ) (small : limit ≤ largest_limit) (slip : Slip) (page : L
   named = named_checks limit slip page line cycle
 
   -- ---- a strike
-  pub strike-refused : (lent : List ℕ) (r : ClassLeft) → r ≡ class_left_of limit slip page line cycle
+  pub strike-refused : (lent : List ℕ) (r : WordAnswer) → r ≡ class_left_of limit slip page line cycle
       → (r.refused ≡ 0 → ⊥) → Outcome (struck_onto limit slip page line cycle lent) (struck r.refused 0 (pos 0)) lent
   unfolding struck_onto
   strike-refused lent r e some =
@@ -120,7 +118,7 @@ module _ (limit : ℕ) (small : limit ≤ largest_limit) (slip : Slip) (page : L
 
     pub struck-onto : first_of named ≡ 0 → (lent : List ℕ) (h : HookLines) (strip : List ℕ)
         → Outcome (stripped cycle on-page lent) h strip
-        → Outcome (struck_onto limit slip page line cycle lent) (struck 0 h.count (carried h.settled)) strip
+        → Outcome (struck_onto limit slip page line cycle lent) (struck 0 h.count h.settled) strip
     unfolding struck_onto stripped
     struck-onto none lent h strip o =
         let long = length-map (waiting_hooks cycle chosen) word_of in
@@ -129,7 +127,7 @@ module _ (limit : ℕ) (small : limit ≤ largest_limit) (slip : Slip) (page : L
         let its : h.settled ≡ settled = ap (λ (x : HookLines). x.settled) o.answers ∙ rw back refl in
         rw none
         (record {
-          answers = rw (count, its, settled-carried) refl;
+          answers = rw (count, its) refl;
           leaves = o.leaves ∙ rw (back, long) refl;
         })
 

@@ -7,22 +7,16 @@ ghost use Rattle.sessions.specs.Private.Striking.{class_without, multiplied, Str
 
 use words::parts::Parts;
 
-// What a cycle leaves of a class: whether the class has it, and the class word without it.
-#[derive(Clone, Copy)]
-pub struct WithoutCycle {
-    pub found: bool,
-    pub class: u32,
-}
-
 // The hook lines of a line: how many were put on a strip, and the sum of the signs of those that leave the empty shape.
-#[derive(Clone, Copy)]
+#[derive(Clone, Copy, Debug, PartialEq, Eq)]
 pub struct HookLines {
     pub count: usize,
     pub settled: i64,
 }
 
-// A class without one cycle: its parts are read until the cycle stands there, and what stands behind it moves up.
-pub fn strike(class: u32, cycle: u64) -> WithoutCycle
+// A class without one cycle, where it has it: its parts are read until the cycle stands there, and what stands behind it
+// moves up.
+pub fn strike(class: u32, cycle: u64) -> Option<u32>
     requires { class < 2 ^ 31 }
     ensures { result ≡ class_without cycle class }
 {
@@ -31,17 +25,11 @@ pub fn strike(class: u32, cycle: u64) -> WithoutCycle
         let behind = left - part;
         if part as u64 == cycle {
             let moved = (class % (1u32 << behind)) << part;
-            return WithoutCycle {
-                found: true,
-                class: class - class % (1u32 << left) + moved,
-            };
+            return Some(class - class % (1u32 << left) + moved);
         }
         left = behind;
     }
-    WithoutCycle {
-        found: false,
-        class,
-    }
+    None
 }
 
 // The sign of a product: whether just one of the two is minus.

@@ -1,10 +1,10 @@
 -- What the private functions on waiting lines are asked.
---   class_without cycle w   a class word without one cycle: whether it has such a cycle, and the word that is left
+--   class_without cycle w   a class word without one cycle, where it has such a cycle
 --   multiplied a b        a sign with another multiplied in: minus where just one of the two is
 --   Strikes ..            a sound line l is struck by a cycle of its class, `class` is the class word without it, and
 --                         the strip has room for the hook lines that wait
 --   stripped ..           what comes of it: how many hook lines wait, what is settled, and their words on the strip
-use Rattle.std.specs.Prelude.{◌≡◌, ◌≤◌, ◌++◌}
+use Rattle.std.specs.Prelude.{◌≡◌, ◌≤◌, ◌++◌, Option, None, Some}
 use Rattle.theory.specs.Basics.{Bool, not, cond, List, map, length, drop, ℕ, ℤ, ◌=?◌, sum}
 use Rattle.theory.specs.Partition.{times, without}
 use Rattle.theory.specs.ClassWord.{class_word, class_of}
@@ -13,15 +13,11 @@ use Rattle.pages.specs.Line.Hooks.{Has}
 use Rattle.pages.specs.Line.Weights.{weight_of}
 use Rattle.pages.specs.Page.{word_of}
 use Rattle.pages.specs.Sound.Laws.{SoundLine}
-use Rattle.sessions.specs.declared.lines.WithoutCycle.{WithoutCycle}
 use Rattle.sessions.specs.declared.lines.HookLines.{HookLines}
 use Rattle.sessions.specs.Step.{settled_hooks, waiting_hooks}
 
-abbrev pub without_cycle : Bool → ℕ → WithoutCycle
-without_cycle found class = record { found = found; class = class }
-
-unfoldable pub class_without : ℕ → ℕ → WithoutCycle
-class_without cycle w = without_cycle (not (times cycle (class_of w) =? 0)) (class_word (without cycle (class_of w)))
+unfoldable pub class_without : ℕ → ℕ → Option ℕ
+class_without cycle w = cond (times cycle (class_of w) =? 0) None (Some (class_word (without cycle (class_of w))))
 
 abbrev pub multiplied : Bool → Bool → Bool
 multiplied a b = cond a (not b) b

@@ -62,7 +62,8 @@ module _ (value : ℕ → ℤ) (s h : ℕ) where
       budget = omega (arith, step-factorial h s walk.long);
     }
 
-    pub walk-next : (so_far : ℤ) (hook : Hook ℕ) (left : List (Hook ℕ)) → Walked (hook ∷ left) so_far → NextHook so_far hook left
+    pub walk-next : (so_far : ℤ) (hook : Hook ℕ) (left : List (Hook ℕ)) → Walked (hook ∷ left) so_far
+        → NextHook so_far hook left
     walk-next so_far hook left w =
         let number : ℤ = value hook.leaves in
         let lower : degree (shape_of hook.leaves) ≡ degree (shape_of s) - h = omega (arith, w.each.0.lower) in

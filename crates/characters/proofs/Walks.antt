@@ -147,5 +147,6 @@ module _ {s w : ℕ} (below : w < 2 ^ width) (e : Evaluable largest_limit s (cla
     evaluable = evaluable-left first.evaluable hook l;
   }
 
-  pub row-kept : {row : List ℤ} → RowOf row (cycles_left (class_of w)) → RowOf row (cycles_left (class_of (others w longest)))
+  pub row-kept : {row : List ℤ} → RowOf row (cycles_left (class_of w))
+      → RowOf row (cycles_left (class_of (others w longest)))
   row-kept {row} of-row = rw first.struck.left at of-row

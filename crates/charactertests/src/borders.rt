@@ -1,5 +1,6 @@
 // The refusals of words at their borders, in the order 1, 3, 2, 4, 5.
 use testing::Tally;
+use words::Refusal;
 
 // A word that is no shape, and shapes of one row; the empty one and those of 3 and 17 with a one in front.
 const NO_SHAPE: u32 = 0x8000_0000;
@@ -27,79 +28,89 @@ const CLASS_16: u32 = 0x0000_8000;
 
 const CLASS_17: u32 = 0x0000_4000;
 
-// A shape word on a class word: the number that refuses the pair and 0, or 0 and the character.
+// A shape word on a class word: why the pair is refused, or the character.
 pub fn pairs() -> Tally {
     let mut t = Tally::new();
-    for (shape, class, refused, number) in [
-        (NO_SHAPE, NO_CLASS, 1, 0),
-        (NO_SHAPE, CLASS_17, 1, 0),
-        (NO_SHAPE, CLASS_3, 1, 0),
-        (SHAPE_17, NO_CLASS, 3, 0),
-        (SHAPE_3, NO_CLASS, 3, 0),
-        (SHAPE_17, CLASS_17, 2, 0),
-        (SHAPE_17, CLASS_3, 2, 0),
-        (SHAPE_3, CLASS_17, 4, 0),
-        (SHAPE_16, CLASS_17, 4, 0),
-        (SHAPE_3, CLASS_4, 5, 0),
-        (SHAPE_3, 0, 5, 0),
-        (0, CLASS_3, 5, 0),
-        (SHAPE_3, CLASS_3, 0, 1),
-        (SHAPE_16, CLASS_16, 0, 1),
-        (SHAPE_17_IN_FRONT, NO_CLASS, 3, 0),
-        (SHAPE_17_IN_FRONT, CLASS_17, 2, 0),
-        (SHAPE_3_IN_FRONT, CLASS_4, 5, 0),
-        (SHAPE_3_IN_FRONT, CLASS_3, 0, 1),
-        (EMPTY_IN_FRONT, 0, 0, 1),
-        (0, 0, 0, 1),
+    for (shape, class, told) in [
+        (NO_SHAPE, NO_CLASS, Err(Refusal::BadShape)),
+        (NO_SHAPE, CLASS_17, Err(Refusal::BadShape)),
+        (NO_SHAPE, CLASS_3, Err(Refusal::BadShape)),
+        (SHAPE_17, NO_CLASS, Err(Refusal::BadClass)),
+        (SHAPE_3, NO_CLASS, Err(Refusal::BadClass)),
+        (SHAPE_17, CLASS_17, Err(Refusal::ShapeTooLarge)),
+        (SHAPE_17, CLASS_3, Err(Refusal::ShapeTooLarge)),
+        (SHAPE_3, CLASS_17, Err(Refusal::ClassTooLarge)),
+        (SHAPE_16, CLASS_17, Err(Refusal::ClassTooLarge)),
+        (SHAPE_3, CLASS_4, Err(Refusal::DegreesDiffer)),
+        (SHAPE_3, 0, Err(Refusal::DegreesDiffer)),
+        (0, CLASS_3, Err(Refusal::DegreesDiffer)),
+        (SHAPE_3, CLASS_3, Ok(1)),
+        (SHAPE_16, CLASS_16, Ok(1)),
+        (SHAPE_17_IN_FRONT, NO_CLASS, Err(Refusal::BadClass)),
+        (SHAPE_17_IN_FRONT, CLASS_17, Err(Refusal::ShapeTooLarge)),
+        (SHAPE_3_IN_FRONT, CLASS_4, Err(Refusal::DegreesDiffer)),
+        (SHAPE_3_IN_FRONT, CLASS_3, Ok(1)),
+        (EMPTY_IN_FRONT, 0, Ok(1)),
+        (0, 0, Ok(1)),
     ] {
-        let told = characters::character(shape, class);
-        t = t.add((told.refused == refused) & (told.number == number));
+        t = t.add(characters::character(shape, class) == told);
     }
     t
 }
 
-// A shape word alone: the number that refuses it and 0, or 0, its character degree and its rank.
+// A shape word alone: why it is refused, or its character degree and its rank.
 pub fn shapes() -> Tally {
     let mut t = Tally::new();
-    for (word, refused, degree, rank) in [
-        (NO_SHAPE, 1, 0, 0),
-        (0xFFFF_FFFF, 1, 0, 0),
-        (SHAPE_17, 2, 0, 0),
-        (0x3FFF_FFFF, 2, 0, 0),
-        (SHAPE_16, 0, 1, 0),
-        (0x0000_4000, 0, 1, 230),
-        (0x7FFF_8001, 0, 1, 134),
-        (EMPTY_IN_FRONT, 0, 1, 0),
-        (0, 0, 1, 0),
+    for (word, degree, rank) in [
+        (NO_SHAPE, Err(Refusal::BadShape), Err(Refusal::BadShape)),
+        (0xFFFF_FFFF, Err(Refusal::BadShape), Err(Refusal::BadShape)),
+        (
+            SHAPE_17,
+            Err(Refusal::ShapeTooLarge),
+            Err(Refusal::ShapeTooLarge),
+        ),
+        (
+            0x3FFF_FFFF,
+            Err(Refusal::ShapeTooLarge),
+            Err(Refusal::ShapeTooLarge),
+        ),
+        (SHAPE_16, Ok(1), Ok(0)),
+        (0x0000_4000, Ok(1), Ok(230)),
+        (0x7FFF_8001, Ok(1), Ok(134)),
+        (EMPTY_IN_FRONT, Ok(1), Ok(0)),
+        (0, Ok(1), Ok(0)),
     ] {
-        let told = characters::character_degree(word);
-        let ranked = listing::shape_rank(word);
         t = t
-            .add((told.refused == refused) & (told.number == degree))
-            .add((ranked.refused == refused) & (ranked.number == rank));
+            .add(characters::character_degree(word) == degree)
+            .add(listing::shape_rank(word) == rank);
     }
     t
 }
 
-// A class word alone: the number that refuses it, even for an empty column, and 0, or 14 for that column, and its rank.
+// A class word alone: why it is refused, even for an empty column, or 14 for that column, and its rank.
 pub fn classes() -> Tally {
     let mut t = Tally::new();
-    for (word, refused, rank) in [
-        (NO_CLASS, 3, 0),
-        (0xFFFF_FFFF, 3, 0),
-        (CLASS_17, 4, 0),
-        (0x7FFF_FFFF, 4, 0),
-        (CLASS_16, 0, 0),
-        (0x7FFF_8000, 0, 230),
-        (0, 0, 0),
+    for (word, column, rank) in [
+        (NO_CLASS, Err(Refusal::BadClass), Err(Refusal::BadClass)),
+        (0xFFFF_FFFF, Err(Refusal::BadClass), Err(Refusal::BadClass)),
+        (
+            CLASS_17,
+            Err(Refusal::ClassTooLarge),
+            Err(Refusal::ClassTooLarge),
+        ),
+        (
+            0x7FFF_FFFF,
+            Err(Refusal::ClassTooLarge),
+            Err(Refusal::ClassTooLarge),
+        ),
+        (CLASS_16, Err(Refusal::ColumnTooShort), Ok(0)),
+        (0x7FFF_8000, Err(Refusal::ColumnTooShort), Ok(230)),
+        (0, Err(Refusal::ColumnTooShort), Ok(0)),
     ] {
         let mut none = [0i64; 0];
-        let column = classcolumns::column(word, &mut none);
-        let ranked = listing::class_rank(word);
-        let first = if refused == 0 { 14 } else { refused };
         t = t
-            .add((column.refused == first) & (column.count == 0))
-            .add((ranked.refused == refused) & (ranked.number == rank));
+            .add(classcolumns::column(word, &mut none) == column)
+            .add(listing::class_rank(word) == rank);
     }
     t
 }

@@ -2,6 +2,7 @@
 use super::lists::Degree;
 use std::io;
 use testing::{Tally, print};
+use words::Refusal;
 
 #[derive(Clone, Copy, Default)]
 pub struct Columns {
@@ -25,19 +26,18 @@ fn short_stays(class: u32, degree: Degree) -> bool {
     let room = degree.count as usize - 1;
     let short = &mut values[..room];
     let column = classcolumns::column(class, short);
-    (column.refused == 14) & (column.count == 0) & marked(short)
+    (column == Err(Refusal::ColumnTooShort)) & marked(short)
 }
 
 impl Columns {
     // The checks on the entries of a class's column.
     fn meet_entries(&mut self, class: u32, entries: &[i64]) {
         let sign = words::classes::sign(class);
-        let last = entries.last() == Some(&sign.number);
         let sizes = entries
             .iter()
             .all(|number| (-2_000_000..=2_000_000).contains(number));
         self.firsts = self.firsts.add(entries.first() == Some(&1));
-        self.lasts = self.lasts.add((sign.refused == 0) & last);
+        self.lasts = self.lasts.add(sign.ok().as_ref() == entries.last());
         self.sizes = self.sizes.add(sizes);
     }
 
@@ -48,16 +48,14 @@ impl Columns {
         let column = classcolumns::column(class, &mut values);
         let (entries, rest) = values.split_at(count);
         self.meet_entries(class, entries);
-        self.counts = self.counts.add(
-            (column.refused == 0) & (column.count == count) & marked(rest),
-        );
+        self.counts = self.counts.add((column == Ok(count)) & marked(rest));
         self.short = self.short.add(short_stays(class, degree));
     }
 
     pub fn of_degree(&mut self, degree: Degree) {
         for rank in 0..degree.count {
             let class = listing::class_at(degree.n, rank);
-            self.meet(class.word, degree);
+            self.meet(class.unwrap_or(0), degree);
         }
     }
 

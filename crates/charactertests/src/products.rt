@@ -13,7 +13,7 @@ fn columns(degree: Degree) -> Table {
     let mut table = [[0i64; listing::MOST_PARTITIONS]; listing::MOST_PARTITIONS];
     for (rank, column) in (0..degree.count).zip(&mut table) {
         let class = listing::class_at(degree.n, rank);
-        classcolumns::column(class.word, column);
+        classcolumns::column(class.unwrap_or(0), column);
     }
     table
 }
@@ -40,7 +40,7 @@ pub fn of_degree(found: Tally, degree: Degree, factorial: u64) -> Tally {
     let mut t = found;
     for rank in 0..degree.count {
         let class = listing::class_at(degree.n, rank);
-        let size = natural(words::classes::size(class.word).number);
+        let size = natural(words::classes::size(class.unwrap_or(0)).unwrap_or(0));
         let at = rank as usize;
         let column = degree.entries(&columns[at]);
         for other in &columns[..at] {

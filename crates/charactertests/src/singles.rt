@@ -1,10 +1,10 @@
 // Single characters: each is an entry of its class's column.
 use super::lists::Degree;
 use testing::Tally;
-use words::NumberAnswer;
+use words::Refusal;
 
 // Whether a call tells this number of the shape of a rank.
-pub fn tells<F: FnOnce(u32) -> NumberAnswer>(
+pub fn tells<F: FnOnce(u32) -> Result<i64, Refusal>>(
     degree: Degree,
     rank: u32,
     call: F,
@@ -13,8 +13,7 @@ pub fn tells<F: FnOnce(u32) -> NumberAnswer>(
     requires { F.IsAlwaysCallable call }
 {
     let shape = listing::shape_at(degree.n, rank);
-    let told = call(shape.word);
-    (shape.refused == 0) & (told.refused == 0) & (told.number == number)
+    shape.and_then(call) == Ok(number)
 }
 
 fn of_class(found: Tally, degree: Degree, class: u32) -> Tally {
@@ -32,7 +31,7 @@ pub fn of_degree(found: Tally, degree: Degree) -> Tally {
     let mut t = found;
     for rank in 0..degree.count {
         let class = listing::class_at(degree.n, rank);
-        t = of_class(t, degree, class.word);
+        t = of_class(t, degree, class.unwrap_or(0));
     }
     t
 }

@@ -15,7 +15,7 @@ use Rattle.words.specs.Answers.{CountAnswer}
 use Rattle.words.specs.Answers.{count_answer, good_answer}
 use Rattle.words.specs.Calls.{good_shape_word}
 use Rattle.pages.specs.Page.{slip_of}
-use Rattle.sessions.specs.declared.Handed.{Handed}
+use Rattle.sessions.specs.Opening.{Handed}
 use Rattle.sessions.specs.Opening.{handed, opening}
 use Rattle.sessions.specs.Step.{preview, commit}
 pub mod Proved

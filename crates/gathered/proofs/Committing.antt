@@ -34,7 +34,7 @@ use Rattle.pages.specs.Sound.{line_value, page_checks_in}
 use Rattle.pages.specs.Sound.Laws.{SoundLine, SoundIn, line-wider, asked, values}
 use Rattle.pages.specs.Sound.Bounds.{weight-counted, asked-within}
 use Rattle.pages.proofs.Signed.{carried, carried-is}
-use Rattle.sessions.specs.declared.Handed.{Handed}
+use Rattle.sessions.specs.Opening.{Handed}
 use Rattle.sessions.specs.Opening.{handed}
 use Rattle.sessions.specs.Step.{settled_hooks, waiting_hooks, next_lines_in, next_slip_in, commit_checks_in, commit_in}
 use Rattle.sessions.proofs.Step.Gathered.{unlike-waiting}

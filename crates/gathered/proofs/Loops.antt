@@ -5,45 +5,47 @@ use Rattle.std.specs.Prelude.{◌∷◌, ◌++◌, ◌+◌, ◌*◌, ◌^◌, �
 use mathlib.Core.Path.{◌≡◌, refl, sym, ◌∙◌, ap}
 use mathlib.Core.List.{append_assoc}
 use Prim.Native.Nat.{◌≤◌, ◌<◌}
-use native.Mathlib.Nat.{add-zero}
+use native.Mathlib.Nat.{add-zero, zero-add}
 use native.Mathlib.Decide.{ℕ_discrete}
 use native.Mathlib.Numerals.{add-one}
 use native.Mathlib.Omega.{arith}
 use borrow.Author.Tests.{eq-eqb, ne_eqb, lt-ltb, le-ltb}
 use lib.ListN.{length-append, length-replicate, drop_of_length-le}
 use lib.Seq.{sets, drop-cons, set_at, set_out, append_snoc, get_or-set_same, get_or-set_other}
-use Rattle.theory.specs.Basics.{Bool, true, false, cond, List, [], map, length, get_or, set, drop}
+use Rattle.std.specs.Prelude.{◌==◌, position}
+use Rattle.std.specs.Prelude.{Option, Some}
+use Rattle.std.specs.List.{position_from}
+use Rattle.std.proofs.lemmas.Iterator.Adapters.{position_from-zero}
+use Rattle.std.specs.Option.{unwrap_or}
+use Rattle.theory.specs.Basics.{Bool, true, false, cond, List, [], length, get_or, set, drop}
 use Rattle.theory.specs.Basics.{replicate, ℕ, zero}
 use Rattle.theory.specs.Basics.{suc, ℤ, pos, nat_abs, ◌=?◌, ◌<?◌}
 use Rattle.theory.proofs.Bounds.Laws.{abs-add}
 use Rattle.gathered.specs.Private.Joining.{place, Small, saved_at, saved_by, raised, picked}
 
 -- ---- a word looked for
-module _ (page : List ℕ) (x i : ℕ) where
-  module _ (more : i < length page) where
-    pub found_here : get_or page i 0 ≡ x → i + place (drop i page) x ≡ i
-    unfolding place
-    found_here e = rw (drop-cons page i 0 more, eq-eqb (get_or page i 0) x e) (add-zero i)
+from-place : (page : List ℕ) (x i : ℕ)
+    → unwrap_or (position_from (λ (y : ℕ). y == x) i page) (i + length page) ≡ i + place page x
+unfolding place
+from-place [] x i = refl
+from-place (y ∷ page) x i = go (y =? x) (from-place page x (i + 1))
+  where
+    go : (b : Bool)
+        → unwrap_or (position_from (λ (y : ℕ). y == x) (i + 1) page) (i + 1 + length page) ≡ i + 1 + place page x
+        → unwrap_or (cond b (Some i) (position_from (λ (y : ℕ). y == x) (i + 1) page)) (i + suc (length page))
+        ≡ i + cond b 0 (suc (place page x))
+    go true later = sym (add-zero i)
+    go false later =
+        let long : i + suc (length page) ≡ i + 1 + length page = omega arith in
+        let there : i + 1 + place page x ≡ i + suc (place page x) = omega arith in
+        rw long (later ∙ there)
 
-    pub found-later : (get_or page i 0 ≡ x → ⊥) → i + 1 + place (drop (i + 1) page) x ≡ i + place (drop i page) x
-    unfolding place
-    found-later n =
-        let one : i + place (drop i page) x ≡ i + suc (place (drop (suc i) page) x) =
-        rw (drop-cons page i 0 more, ne_eqb (get_or page i 0) x n) refl in
-        rw (one, add-one i) (omega arith)
-
-  pub found_nowhere : length page ≤ i → i + place (drop i page) x ≡ i
-  unfolding place
-  found_nowhere l = rw (drop_of_length-le page l) (add-zero i)
-
--- ---- numbers put one after the other
-module _ {A B : Type 0} (f : A → B) (d : A) (ys : List B) (xs : List A) (i : ℕ) where
-  pub put_next : i < length xs
-      → sets (set ys i (f (get_or xs i d))) (i + 1) (map f (drop (i + 1) xs)) ≡ sets ys i (map f (drop i xs))
-  put_next l = rw (add-one i, drop-cons xs i d l)
-
-  pub put-none : length xs ≤ i → ys ≡ sets ys i (map f (drop i xs))
-  put-none l = rw (drop_of_length-le xs l)
+pub position-place : (page : List ℕ) (x : ℕ)
+    → unwrap_or (position (λ (y : ℕ). y == x) page) (length page) ≡ place page x
+position-place page x =
+    ap (λ (o : Option ℕ). unwrap_or o (length page)) (position_from-zero (λ (y : ℕ). y == x) page)
+    ∙ ap (λ (n : ℕ). unwrap_or (position_from (λ (y : ℕ). y == x) 0 page) n) (sym (zero-add (length page)))
+    ∙ from-place page x 0 ∙ zero-add (place page x)
 
 -- ---- lines spared, and weights added
 module _ (column : List ℤ) (ps : List ℕ) (ws : List ℤ) (j : ℕ) where

@@ -18,7 +18,7 @@ use Rattle.pages.specs.Line.{Line}
 use Rattle.pages.specs.declared.Slip.{Slip}
 use Rattle.pages.specs.Page.{slip_of, blank, padded}
 use Rattle.pages.specs.Mode.{unit, gathered_mode}
-use Rattle.sessions.specs.declared.Handed.{Handed}
+use Rattle.sessions.specs.Opening.{Handed}
 use Rattle.sessions.specs.Opening.{handed, first_lines, first_settled, opening_in, opening}
 use Rattle.sessions.specs.Opening.Laws.{opening-refused, words-pass}
 use Rattle.gathered.proofs.Filled.{first-column}

@@ -6,14 +6,14 @@ use Prim.Native.Nat.{◌≤◌, ◌<◌}
 use native.Mathlib.Omega.{arith}
 use borrow.Author.Tests.{lt-ltb, le-ltb}
 use lib.ListN.{length-map}
-use lib.Seq.{length-take-le, sets, sets-eq, length-sets, take_at}
+use lib.Seq.{length-take-le, sets, sets-eq, take_at}
 use Rattle.theory.specs.Basics.{true, false, List, map, length, take, ℕ, ℤ}
 use Rattle.theory.specs.Limits.{degree_limit}
 use Rattle.words.specs.Answers.{Outcome}
 use Rattle.pages.specs.Line.{Line}
 use Rattle.pages.specs.Mode.{alongside}
 use Rattle.pages.specs.Lawful.Gathered.{length-alongside}
-use Rattle.gathered.specs.Private.Joining.{place, Small, saved_by, lines_before, next_of, putting}
+use Rattle.gathered.specs.Private.Joining.{place, saved_by, lines_before, next_of, putting}
 use Rattle.gathered.specs.Private.Joining.{joined_answer, Joinable}
 use Rattle.gathered.specs.Private.Joining.{Joins}
 use Rattle.gathered.specs.Private.Joining.{joined_onto}
@@ -46,22 +46,10 @@ module _ (page : List ℕ) (column : List ℤ) (line lines : ℕ) (words : List 
     places-fit : 0 + length (map (place xs) words) ≤ length room
     places-fit = omega (arith, length-map words (place xs), j.few)
 
-    pub all-long : length words ≤ length all
-    all-long = omega (arith, ap length put, length-sets room 0 (map (place xs) words), j.few)
-
     pub places-are : take (length words) all ≡ map (place xs) words
     places-are =
         ap (take (length words)) (put ∙ sets-eq (map (place xs) words) room 0 places-fit)
         ∙ take_at (map (place xs) words) _ (length words) (length-map words (place xs))
-
-    pub saves : (length (take (length words) all) ≡ length weights) × (length weights ≤ degree_limit) × Small 1 zs
-        × Small 1 weights
-    saves = (
-      ap length places-are ∙ length-map words (place xs) ∙ j.weighed,
-      omega (arith, j.few, j.weighed),
-      j.small,
-      j.small-weights,
-    )
 
     module _ {saved : ℕ} (spares-all : saved ≡ saved_by zs (take (length words) all) weights) where
       -- ---- the count

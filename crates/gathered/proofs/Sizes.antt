@@ -18,9 +18,6 @@ pub no_size : (z : ℤ) → SFits w64 z → of_z w64 z ≡ 0 → nat_abs z ≡ 0
 no_size z fits e = ap nat_abs (sym (to_z-of_z fits) ∙ ap (to_z w64) e)
 
 module _ (a b r : ℤ) (small : nat_abs a + nat_abs b < 2 ^ 63) where
-  pub both-carried : nat_abs (carried a) + nat_abs (carried b) < 2 ^ 63
-  both-carried = rw (carried-is a (omega arith), carried-is b (omega arith)) small
-
   module _ (e : r ≡ carried a +ℤ carried b) where
     pub added : carried r ≡ a +ℤ b
     added = ap carried e ∙ sum_is a b small

@@ -40,7 +40,7 @@ use Rattle.pages.specs.Sound.{line_value, page_checks}
 use Rattle.pages.specs.Sound.Laws.{SoundLine}
 use Rattle.pages.proofs.Signed.{carried, carried-is}
 use Rattle.characters.proofs.LineValues.{word_value}
-use Rattle.sessions.specs.declared.Handed.{Handed}
+use Rattle.sessions.specs.Opening.{Handed}
 use Rattle.sessions.specs.Opening.{handed}
 use Rattle.sessions.specs.Step.{settled_hooks, waiting_hooks, next_lines_in, next_slip_in, commit_in}
 use Rattle.sessions.specs.Step.{next_lines, next_slip, commit_checks, commit}

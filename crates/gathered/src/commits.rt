@@ -32,7 +32,7 @@ fn turn(minus: bool, number: i64) -> i64
     requires { nat_abs number < 2 ^ 63 }
     ensures { result ≡ signed minus number }
 {
-    if minus { 0 - number } else { number }
+    if minus { -number } else { number }
 }
 
 // Hook lines of a line without its coefficient become those of the line with it: words with clear sign digits, and the
@@ -43,11 +43,9 @@ fn weigh(hooks: &[u64], coefficient: i64, words: &mut [u64], weights: &mut [i64]
     ensures { (words.new ≡ sets words.old 0 (map cleared hooks.now))
         × (weights.new ≡ sets weights.old 0 (map (turned coefficient) hooks.now)) }
 {
-    let mut j = 0;
-    while j < hooks.len() {
-        words[j] = hooks[j] % 0x8000_0000_0000_0000;
-        weights[j] = turn(linewords::minus(hooks[j]), coefficient);
-        j += 1;
+    for (j, &hook) in hooks.iter().enumerate() {
+        words[j] = hook % 0x8000_0000_0000_0000;
+        weights[j] = turn(linewords::minus(hook), coefficient);
     }
 }
 
@@ -95,9 +93,9 @@ fn next_slip(slip: Slip, settled: i64, lines: usize) -> Slip
     Slip {
         shape: slip.shape,
         class: slip.class,
-        settled: numbers::add(slip.settled, settled),
+        settled: slip.settled + settled,
         lines,
-        steps: numbers::add(slip.steps, 1),
+        steps: slip.steps + 1,
         mode: slip.mode,
     }
 }

@@ -9,8 +9,6 @@ ghost use Rattle.words.specs.Answers.{Outcome};
 ghost use Rattle.gathered.specs.Private.Joining.{place, Small, saved_at, saved_by, raised, picked, kept, stayed};
 ghost use Rattle.gathered.specs.Private.Joining.{putting, Joinable, Joins, next_of, joined_onto};
 
-use super::numbers;
-
 // What comes of hook lines that are joined to lines: whether the page is too full for them, or how many lines there
 // are.
 #[derive(Clone, Copy)]
@@ -23,14 +21,9 @@ pub struct Joined {
 fn find(page: &[u64], word: u64) -> usize
     ensures { result ≡ place page.now word }
 {
-    let mut i = 0;
-    while i < page.len() {
-        if page[i] == word {
-            return i;
-        }
-        i += 1;
-    }
-    i
+    page.iter()
+        .position(|&other| other == word)
+        .unwrap_or(page.len())
 }
 
 // The places of words on a page, to the front of `places`, which has room.
@@ -39,10 +32,8 @@ fn find_all(page: &[u64], words: &[u64], places: &mut [usize])
     ensures { places.new
         ≡ sets places.old 0 (map (place page.now) words.now) }
 {
-    let mut j = 0;
-    while j < words.len() {
-        places[j] = find(page, words[j]);
-        j += 1;
+    for (j, &word) in words.iter().enumerate() {
+        places[j] = find(page, word);
     }
 }
 
@@ -55,7 +46,7 @@ fn saved(column: &[i64], place: usize, weight: i64) -> usize
     if column.len() <= place {
         return 0;
     }
-    if numbers::add(column[place], weight) == 0 {
+    if column[place] + weight == 0 {
         return 2;
     }
     1
@@ -68,10 +59,8 @@ fn saved_by_all(column: &[i64], places: &[usize], weights: &[i64]) -> usize
     ensures { result ≡ saved_by column.now places.now weights.now }
 {
     let mut all = 0;
-    let mut j = 0;
-    while j < places.len() {
-        all += saved(column, places[j], weights[j]);
-        j += 1;
+    for (&place, &weight) in places.iter().zip(weights) {
+        all += saved(column, place, weight);
     }
     all
 }
@@ -82,13 +71,10 @@ fn raise(column: &mut [i64], places: &[usize], weights: &[i64])
         × Small 1 column.old × Small 1 weights.now }
     ensures { column.new ≡ raised column.old places.now weights.now }
 {
-    let mut j = 0;
-    while j < places.len() {
-        let place = places[j];
+    for (&place, &weight) in places.iter().zip(weights) {
         if place < column.len() {
-            column[place] = numbers::add(column[place], weights[j]);
+            column[place] += weight;
         }
-        j += 1;
     }
 }
 
@@ -100,8 +86,7 @@ fn squeeze(page: &mut [u64], column: &mut [i64]) -> usize
         column.old) result (page.new, column.new) }
 {
     let mut to = 0;
-    let mut from = 0;
-    while from < page.len() {
+    for from in 0..page.len() {
         let word = page[from];
         let coefficient = column[from];
         page[from] = 0;
@@ -111,7 +96,6 @@ fn squeeze(page: &mut [u64], column: &mut [i64]) -> usize
             column[to] = coefficient;
             to += 1;
         }
-        from += 1;
     }
     to
 }
@@ -135,14 +119,12 @@ fn append(
         ≡ sets column.old at (picked none places.now weights.now)) }
 {
     let mut next = at;
-    let mut j = 0;
-    while j < places.len() {
-        if places[j] == none {
+    for (j, &place) in places.iter().enumerate() {
+        if place == none {
             page[next] = words[j];
             column[next] = weights[j];
             next += 1;
         }
-        j += 1;
     }
     next
 }

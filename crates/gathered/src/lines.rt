@@ -28,10 +28,8 @@ pub fn sum(lines: &[u64], coefficients: &[i64]) -> i64
     ensures { result ≡ sum_of signed_character (alongside lines.now coefficients.now) }
 {
     let mut sum = 0i64;
-    let mut i = 0;
-    while i < lines.len() {
-        sum = numbers::add(sum, signed_character(lines[i], coefficients[i]));
-        i += 1;
+    for (&line, &coefficient) in lines.iter().zip(coefficients) {
+        sum += signed_character(line, coefficient);
     }
     sum
 }

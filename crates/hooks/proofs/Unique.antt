@@ -37,8 +37,8 @@ hooks-of-once κs a r r' s s' p q = p.0 ∙ sym q.0
 same-hook : (x y : Hook) → hook_of x ≡ hook_of y → x ≡ y
 same-hook x y e = ap (λ (hook : theory.Hook ℕ). record { minus = hook.minus; leaves = hook.leaves }) e
 
-first-once : (hooks left left' : List (theory.Hook ℕ)) (r r' : Option Hook) → YieldsFirstBy hook_of (λ rest. rest) hooks r left
-    → YieldsFirstBy hook_of (λ rest. rest) hooks r' left' → (r ≡ r') × (left ≡ left')
+first-once : (hooks left left' : List (theory.Hook ℕ)) (r r' : Option Hook)
+    → YieldsFirstBy hook_of (λ rest. rest) hooks r left → YieldsFirstBy hook_of (λ rest. rest) hooks r' left' → (r ≡ r') × (left ≡ left')
 first-once hooks left left' None None p q = (refl, p.1 ∙ sym q.1)
 first-once hooks left left' None (Some y) p q = (cc, cc)
 first-once hooks left left' (Some x) None p q = (cc, cc)

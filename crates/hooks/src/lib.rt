@@ -1,6 +1,6 @@
 // The hooks of a shape word (document 01, "Hook of length h"), found by a mask. A hook has a zero, and a one as many
-// places below it as it is long; its stretch is the digits behind the zero, down to the one. `of` goes over the hooks of
-// one length, in order. Every call takes every input.
+// places below it as it is long; its stretch is the digits behind the zero, down to the one. `of` goes over the hooks
+// of one length, in order. Every call takes every input.
 
 #![tactic(auto)]
 

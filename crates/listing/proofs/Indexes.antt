@@ -1,12 +1,14 @@
 -- Where shape words stand in the table of all of them, and how a word is searched for; what holds of any such list of
 -- words is theory's (Listing/Words).
-use Rattle.std.specs.Prelude.{◌∷◌, ◌+◌, IsOk}
+use Rattle.std.specs.Prelude.{◌∷◌, ◌+◌, ◌-◌, ◌==◌, Some, position, slice_range, IsOk}
+use Rattle.std.proofs.Common.{ap₂, eq-eqb, ne_eqb, lt-ltb, length-drop, length-take-le}
+use Rattle.std.proofs.lemmas.List.{get_or-take, get_or-drop}
+use Rattle.std.proofs.lemmas.List.Sums.{position_or_len_is}
 use mathlib.Core.Path.{◌≡◌, refl, sym, ◌∙◌, ap}
 use Prim.Native.Nat.{◌≤◌, ◌<◌}
-use native.Mathlib.Decide.{ℕ_discrete}
 use native.Mathlib.Omega.{arith}
 use borrow.Author.Tests.{le-ltb, ltb-false}
-use Rattle.theory.specs.Basics.{[], ℕ, suc, get_or, length}
+use Rattle.theory.specs.Basics.{Bool, true, false, List, [], ℕ, suc, get_or, length, take, drop}
 use Rattle.theory.specs.Partition.{degree}
 use Rattle.theory.specs.ShapeWord.{shape_of}
 use Rattle.theory.proofs.ShapeWord.Good.{shape-good}
@@ -68,9 +70,6 @@ stands limit w h = indexed (suc limit) w (shape-good h.good) (omega arith)
 
 -- the words of a degree up to one of them: it is found at its rank and only there
 module _ (limit w i : ℕ) (h : Within limit w) (l : i ≤ rank (shape_of w)) where
-  pub rank-inside : start (degree (shape_of w)) + i < length (words_within limit)
-  rank-inside = omega (arith, (stands limit w h).within)
-
   pub rank-found : limit ≤ largest_limit → get_or (words_within limit) (start (degree (shape_of w)) + i) 0 ≡ w
       → rank (shape_of w) ≡ i
   rank-found fits e =
@@ -79,10 +78,46 @@ module _ (limit w i : ℕ) (h : Within limit w) (l : i ≤ rank (shape_of w)) wh
       let at = word_at (suc limit) n i (omega (arith, h.small)) inside in
       (rw (sym at ∙ e) at (word-ranked n i (omega (arith, h.small)) inside)).ranked
 
-  pub rank-ahead : (get_or (words_within limit) (start (degree (shape_of w)) + i) 0 ≡ w → ⊥) → i < rank (shape_of w)
-  rank-ahead n = elim (ℕ_discrete i (rank (shape_of w))) [
-    | yes e ↦
-        absurd
-        (n (ap (λ (k : ℕ). get_or (words_within limit) (start (degree (shape_of w)) + k) 0) e ∙ (stands limit w h).at))
-    | no f ↦ omega arith
-  ]
+-- ---- among the words of its degree a word stands first at its rank
+module _ (limit w : ℕ) (fits : limit ≤ largest_limit) (h : Within limit w) (ws : List ℕ) (a n : ℕ)
+    (whole : ws ≡ words_within limit) (from : a ≡ start (degree (shape_of w)))
+    (counted : n ≡ length (listing (degree (shape_of w)))) where
+  abbrev of_degree : List ℕ
+  of_degree = slice_range ws a (a + n)
+
+  pub ranked : rank (shape_of w) < n
+  ranked = omega (arith, counted, start-next (degree (shape_of w)), (stands limit w h).in-degree)
+
+  pub section-inside : a + n ≤ length ws
+  section-inside =
+      omega (
+        arith,
+        from,
+        counted,
+        ranked,
+        ap length whole,
+        index_below limit (degree (shape_of w)) (n - 1) h.small (omega (arith, counted, ranked)),
+      )
+
+  sized : length of_degree ≡ n
+  sized =
+      let size : a + n - a ≡ n = omega arith in
+      ap (λ k. length (take k (drop a ws))) size
+      ∙ length-take-le n (drop a ws) (omega (arith, section-inside, length-drop a ws))
+
+  at_place : (i : ℕ) → i < n → get_or of_degree i 0 ≡ get_or (words_within limit) (start (degree (shape_of w)) + i) 0
+  at_place i l =
+      get_or-take (a + n - a) (drop a ws) i 0 (omega arith) ∙ get_or-drop a ws i 0
+      ∙ ap₂ (λ (xs : List ℕ) (k : ℕ). get_or xs (k + i) 0) whole from
+
+  pub stands_at_rank : position (λ other. other == w) of_degree ≡ Some (rank (shape_of w))
+  stands_at_rank =
+      let r : ℕ = rank (shape_of w) in
+      let test : ℕ → Bool = λ other. other == w in
+      let hit : test (get_or of_degree r 0) ≡ true = eq-eqb (get_or of_degree r 0) w (at_place r ranked ∙ (stands limit w h).at) in
+      let miss : (k : ℕ) → k < r → test (get_or of_degree k 0) ≡ false = λ k l.
+      ne_eqb (get_or of_degree k 0) w (λ e.
+      let found = rank-found limit w k h (omega arith) fits (sym (at_place k (omega (arith, ranked))) ∙ e) in omega arith) in
+      let inside : r < length of_degree = omega (arith, sized, ranked) in
+      let first = position_or_len_is test of_degree r 0 (omega arith) miss (λ m. hit) in
+      rw (first, lt-ltb r (length of_degree) inside) refl

@@ -3,7 +3,7 @@
 
 #![tactic(auto)]
 
-ghost use Rattle.std.specs.Prelude.{◌≡◌};
+ghost use Rattle.std.specs.Prelude.{◌≡◌, ◌==◌, position};
 ghost use Rattle.theory.specs.Partition.{degree as degree_of};
 ghost use Rattle.theory.specs.ShapeWord.{shape_of};
 ghost use Rattle.theory.specs.Listing.{rank as rank_of};
@@ -76,18 +76,24 @@ pub fn class_at(degree: u32, rank: u32) -> Result<u32, Refusal>
     words::classes::word(&parts[..count])
 }
 
-// The rank of a good shape word of this degree, searched for among the words of its degree. The words are lent, since a
-// constant would be made anew at each turn.
+// Where a word stands first among others.
+fn index_of(words: &[u32], word: u32) -> Option<usize>
+    ensures { result ≡ position (λ other. other == word) words.now }
+{
+    words.iter().position(|other| *other == word)
+}
+
+// The rank of a good shape word of this degree, searched for among the words of its degree.
 fn search(words: &[u32], word: u32, degree: u32) -> u32
     requires { (words.now ≡ shape_words) × Within degree_limit word × (degree ≡ degree_of (shape_of word)) }
     ensures { result ≡ rank_of (shape_of word) }
 {
-    let start = section(degree).unwrap().start;
-    let mut rank = 0u32;
-    while words[start + rank as usize] != word {
-        rank += 1;
+    let section = section(degree).unwrap();
+    let of_degree = &words[section.start..section.start + section.count];
+    match index_of(of_degree, word) {
+        Some(rank) => rank as u32,
+        None => 0, // each word stands among those of its degree
     }
-    rank
 }
 
 // The rank of a shape. Refuses 1, then 2.

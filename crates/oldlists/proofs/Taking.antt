@@ -1,6 +1,6 @@
 -- The rows of a shape taken out of a run of ones, one after the other, until its new word is left.
---   Taking w last left bits ps       `bits` has ones in all the `left` last digits and one more at the end; of these the
---                                    rows ps behind the row `last` take their zeros, and w is made
+--   Taking w last left bits ps       `bits` has ones in all the `left` last digits and one more at the end; of these
+--                                    the rows ps behind the row `last` take their zeros, and w is made
 --   ZeroTaken w last left bits r b rs   the row r, before the rows rs, takes its zero b
 --   AllTaken w last left bits b      without a row the digits b behind the last one go
 use Rattle.std.specs.Prelude.{◌≡◌, ◌≤◌, ◌<◌, ◌∷◌, ◌+◌, ◌-◌, ◌*◌, ◌%◌, ◌^◌}

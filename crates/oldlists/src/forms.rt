@@ -36,8 +36,8 @@ fn new_word(word: u32) -> u32
     bits - (1u32 << (left - last))
 }
 
-// The old word of a new one. Its digits are complemented, up to the last one, so that a one stands for each row; that is
-// as long as there are ones left.
+// The old word of a new one. Its digits are complemented, up to the last one, so that a one stands for each row; that
+// is as long as there are ones left.
 fn old_word(word: u32) -> u32
     requires { Within largest_limit word }
     ensures { result ≡ old_word word }

@@ -23,12 +23,12 @@ use Rattle.words.specs.Answers.{CountAnswer}
 use Rattle.words.specs.Answers.{Outcome}
 use Rattle.text.specs.Text.{Text}
 use Rattle.pages.specs.declared.Slip.{Slip}
-use Rattle.sessions.specs.declared.Handed.{Handed}
+use Rattle.sessions.specs.Opening.{Handed}
 use Rattle.characters.specs.declared.Watched.{Watched}
 use Rattle.sessions.specs.Opening.{opening_in}
 use Rattle.sessions.specs.Step.{preview_in, commit_in}
 use Rattle.characters.specs.Watch.{reads, watch_in}
-use Rattle.sessiontext.specs.declared.Loaded.{Loaded}
+use Rattle.sessiontext.specs.Calls.{Loaded}
 use Rattle.sessiontext.specs.SessionText.{Form}
 use Rattle.sessiontext.specs.Calls.{save_by, load_by}
 pub mod Parts

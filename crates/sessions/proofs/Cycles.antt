@@ -1,94 +1,117 @@
--- A cycle struck from a class word while the word is read: what has been read stays, what is left goes without it.
---   Striking w cycle at rest   of the class word w, `at` digits have been read, none of their parts is the cycle, and
---                              the number `rest` is left
-use Rattle.std.specs.Prelude.{◌+◌, ◌-◌, ◌*◌, ◌%◌, ◌^◌}
-use mathlib.Core.Path.{◌≡◌, refl, ◌∙◌}
-use Prim.Native.Nat.{◌<◌, ◌≤◌}
-use native.Mathlib.Nat.{mod-eq_of_lt}
-use native.Mathlib.Omega.{arith}
-use borrow.Author.Tests.{eq-eqb, ne_eqb}
-use lib.Count.{count_leading_zeros}
-use lib.Pow.{pow_mono, shl_lt}
+-- A cycle struck from a class word while its parts are read: what has been read stays, what is left goes without it.
+--   Striking w cycle left rest ps   of the class word w `left` digits are left, and the number `rest` in them; its
+--                                   parts are ps, and none of the parts before them is the cycle
+--   PartRead w cycle left rest p b qs   what is known where the part p stands before the parts qs, and b is its one
+use Rattle.std.specs.Prelude.{◌≡◌, ◌<◌, ◌≤◌, ◌∷◌, ◌+◌, ◌-◌, ◌*◌, ◌%◌, ◌^◌}
+use Rattle.std.proofs.Common.{refl, sym, ap, ◌∙◌, arith, eq-eqb, ne_eqb, mod-eq_of_lt, pow_mono, shl_lt}
 use Rattle.theory.specs.Basics.{true, false, [], ℕ}
-use Rattle.theory.specs.Partition.{Parts, times, without}
-use Rattle.theory.specs.Digits.{word}
-use Rattle.theory.proofs.Digits.Laws.{one_shifted, word_none, word_below}
+use Rattle.theory.specs.Partition.{Parts, degree, times, without}
+use Rattle.theory.specs.Partition.Laws.{NoZero, some}
+use Rattle.theory.specs.Digits.{digits, word}
+use Rattle.theory.proofs.Digits.Laws.{one_shifted, word_none, word_below, length_digits}
 use Rattle.theory.specs.ClassWord.{class_digits, class_word, class_of}
-use Rattle.theory.proofs.ClassWord.Laws.{class-word-front}
+use Rattle.theory.proofs.ClassWord.Laws.{class-word-front, parts-word, parts-no-zero, degree-parts, word-of-class}
 use Rattle.theory.proofs.ClassWord.Reading.{word_moved}
-use Rattle.words.proofs.ClassLoops.{parts_left, next-part, no-parts-left}
 use Rattle.sessions.specs.Private.Striking.{without_cycle, class_without}
 
-pub record Striking (w cycle at rest : ℕ) : Type 0 where
-  pub below : rest < 2 ^ (31 - at)
+pub record Striking (w cycle left rest : ℕ) (ps : Parts) : Type 0 where
+  pub parts : NoZero ps
+  pub room : degree ps ≤ left
+  pub digits : left ≤ 31
+  pub reads : rest ≡ word left (class_digits ps)
   pub inside : rest ≤ w
-  pub makes : class_word (without cycle (class_of w))
-      ≡ w - rest + word (31 - at) (class_digits (without cycle (parts_left at rest)))
-  pub counts : times cycle (class_of w) ≡ times cycle (parts_left at rest)
+  pub makes : class_word (without cycle (class_of w)) ≡ w - rest + word left (class_digits (without cycle ps))
+  pub counts : times cycle (class_of w) ≡ times cycle ps
 
-pub strike-start : (w cycle : ℕ) → w < 2 ^ 31 → Striking w cycle 0 w
-strike-start w cycle l = record {
-  below = l;
-  inside = omega arith;
-  makes = omega arith;
-  counts = refl;
-}
+pub strike-start : (w cycle : ℕ) {ps : Parts} → w < 2 ^ 31 → ps ≡ class_of w → Striking w cycle 31 w ps
+strike-start w cycle l e =
+    rw e
+    (record {
+      parts = parts-no-zero 0 (digits 31 w);
+      room = omega (arith, degree-parts 0 (digits 31 w), length_digits 31 w);
+      digits = omega arith;
+      reads = sym (word-of-class l);
+      inside = omega arith;
+      makes = omega arith;
+      counts = refl;
+    })
 
-module _ (w cycle at rest : ℕ) (s : Striking w cycle at rest) where
-  -- no part is left
-  pub strike-end : rest ≡ 0 → without_cycle false w ≡ class_without cycle w
-  unfolding class_without
-  strike-end e =
-      let none : parts_left at rest ≡ [] = no-parts-left at rest e in
-      let same : class_word (without cycle (class_of w)) ≡ w =
-      s.makes ∙ rw (none, word_none (31 - at)) (omega arith) in
-      rw (same, s.counts, none)
+-- no part is left
+pub strike-end : {w cycle left rest : ℕ} {ps : Parts} → Striking w cycle left rest ps → ps ≡ []
+    → without_cycle false w ≡ class_without cycle w
+unfolding class_without
+strike-end {w} {cycle} {left} {rest} s none =
+    let reads : rest ≡ word left [] = rw none at s.reads in
+    let makes : class_word (without cycle (class_of w)) ≡ w - rest + word left [] = rw none at s.makes in
+    let same : class_word (without cycle (class_of w)) ≡ w = omega (arith, word_none left, s.inside) in
+    rw (same, s.counts, none)
 
-  module _ (more : rest ≡ 0 → ⊥) where
-    abbrev one : ℕ
-    one = count_leading_zeros 32 rest
+-- parts moved up
+moved : (n k : ℕ) {ps : Parts} → NoZero ps → degree ps ≤ n
+    → word (n + k) (class_digits ps) ≡ word n (class_digits ps) * 2 ^ k
+moved n k {ps} z h =
+    ap (λ qs. word (n + k) (class_digits qs)) (sym (parts-word n z h))
+    ∙ word_moved n k (word n (class_digits ps)) (word_below n (class_digits ps))
 
-    abbrev behind : ℕ
-    behind = rest - 1 * 2 ^ (31 - one) % 2 ^ 32
+-- the part p, before the parts qs
+pub record PartRead (w cycle left rest p b : ℕ) (qs : Parts) : Type 0 where
+  pub positive : 0 < p
+  pub fits : p ≤ left
+  pub takes : b ≤ rest
+  pub behind : rest - b ≡ word (left - p) (class_digits qs)
+  pub miss : (p ≡ cycle → ⊥) → Striking w cycle (left - p) (rest - b) qs
+  pub hit : p ≡ cycle → class_word (without cycle (class_of w)) ≡ w - rest + (rest - b) * 2 ^ p % 2 ^ 32
+  pub found : p ≡ cycle → times cycle (class_of w) ≡ 0 → ⊥
 
-    -- the part is the cycle: what stands behind it moves up
-    module _ (hit : one - at ≡ cycle) where
-      struck-word : class_word (without cycle (class_of w)) ≡ w - rest + behind * 2 ^ (one - at) % 2 ^ 32
-      struck-word =
-          let t = next-part at rest more s.below in
-          let size : 31 - one + (one - at) ≡ 31 - at = omega (arith, t.above, t.within) in
-          let moved = rw size at (word_moved (31 - one) (one - at) behind t.left) in
-          let small : behind * 2 ^ (one - at) < 2 ^ (31 - at) = rw size at (shl_lt (31 - one) (one - at) t.left) in
-          let room : 2 ^ (31 - at) ≤ 2 ^ 31 = pow_mono {j = 31} (omega arith) in
-          let same : behind * 2 ^ (one - at) % 2 ^ 32 ≡ behind * 2 ^ (one - at) = mod-eq_of_lt (omega arith) in
-          s.makes ∙ rw (t.reads, eq-eqb (one - at) cycle hit, moved, same)
+first-parts : {p : ℕ} {qs : Parts} → NoZero (p ∷ qs) → (0 < p) × NoZero qs
+first-parts (some n) = (omega arith, n)
 
-      pub strike-fits : w - rest + behind * 2 ^ (one - at) % 2 ^ 32 < 2 ^ 31
-      strike-fits = rw struck-word at (word_below 31 (class_digits (without cycle (class_of w))))
+pub part-read : {w cycle left rest p : ℕ} {ps qs : Parts} → Striking w cycle left rest ps → ps ≡ p ∷ qs
+    → PartRead w cycle left rest p (1 * 2 ^ (left - p) % 2 ^ 32) qs
+part-read {w} {cycle} {left} {rest} {p} {ps} {qs} s e =
+    let (positive, parts) = first-parts (rw e at s.parts) in
+    let room : p + degree qs ≤ left = rw e at s.room in
+    let m : ℕ = left - p in
+    let front = class-word-front left p qs positive (omega arith) in
+    let reads : rest ≡ word left (class_digits (p ∷ qs)) = rw e at s.reads in
+    let behind : rest - 2 ^ m ≡ word m (class_digits qs) = omega arith in
+    rw (one_shifted 32 m (omega (arith, s.digits)))
+    (record {
+      positive = positive;
+      fits = omega arith;
+      takes = omega arith;
+      behind = behind;
+      miss = λ n.
+          let others : Parts = without cycle qs in
+          let other = ne_eqb p cycle n in
+          let left-out = class-word-front left p others positive (omega arith) in
+          let makes : class_word (without cycle (class_of w)) ≡ w - rest + word left (class_digits (p ∷ others)) =
+          rw (e, other) at s.makes in
+          record {
+            parts = parts;
+            room = omega arith;
+            digits = omega (arith, s.digits);
+            reads = behind;
+            inside = omega (arith, s.inside);
+            makes = omega (arith, s.inside);
+            counts = rw (e, other) at s.counts;
+          };
+      hit = λ h.
+          let makes : class_word (without cycle (class_of w)) ≡ w - rest + word left (class_digits qs) =
+          rw (e, eq-eqb p cycle h) at s.makes in
+          let whole : m + p ≡ left = omega arith in
+          let up : word left (class_digits qs) ≡ word m (class_digits qs) * 2 ^ p =
+          rw whole at (moved m p parts (omega arith)) in
+          let small : word m (class_digits qs) * 2 ^ p < 2 ^ left = rw whole at (shl_lt m p (word_below m (class_digits qs))) in
+          let bits : 2 ^ left ≤ 2 ^ 31 = pow_mono {j = 31} s.digits in
+          let same : word m (class_digits qs) * 2 ^ p % 2 ^ 32 ≡ word m (class_digits qs) * 2 ^ p = mod-eq_of_lt (omega arith) in
+          rw (behind, same, ← up) makes;
+      found = λ h none.
+          let counts = rw (e, eq-eqb p cycle h) at s.counts in
+          omega arith;
+    })
 
-      pub strike-hit : without_cycle true (w - rest + behind * 2 ^ (one - at) % 2 ^ 32) ≡ class_without cycle w
-      unfolding class_without
-      strike-hit =
-          let t = next-part at rest more s.below in
-          let some : times cycle (class_of w) ≡ 0 → ⊥ =
-          rw (s.counts, t.reads, eq-eqb (one - at) cycle hit) (λ none. omega arith) in
-          rw (← struck-word, ne_eqb (times cycle (class_of w)) 0 some)
-
-    -- the part is another
-    pub strike-miss : (one - at ≡ cycle → ⊥) → Striking w cycle one behind
-    strike-miss miss =
-        let t = next-part at rest more s.below in
-        let e = ne_eqb (one - at) cycle miss in
-        let others : Parts = without cycle (parts_left one behind) in
-        let part : 0 < one - at = omega (arith, t.above) in
-        let fits : one - at ≤ 31 - at = omega (arith, t.within) in
-        let size : 31 - at - (one - at) ≡ 31 - one = omega (arith, t.above, t.within) in
-        let shifted = one_shifted 32 (31 - one) (omega arith) in
-        record {
-          below = t.left;
-          inside = omega (arith, s.inside);
-          makes = s.makes
-              ∙ rw (t.reads, e, class-word-front (31 - at) (one - at) others part fits, size, ← shifted)
-              (omega (arith, t.takes, s.inside));
-          counts = s.counts ∙ rw (t.reads, e);
-        }
+pub strike-hit : {w cycle left rest p b : ℕ} {qs : Parts} → PartRead w cycle left rest p b qs → p ≡ cycle
+    → without_cycle true (w - rest + (rest - b) * 2 ^ p % 2 ^ 32) ≡ class_without cycle w
+unfolding class_without
+strike-hit {w} {cycle} r h = rw (← r.hit h, ne_eqb (times cycle (class_of w)) 0 (r.found h)) refl

@@ -5,6 +5,8 @@ ghost use Rattle.words.specs.Answers.{Outcome};
 ghost use Rattle.pages.specs.Page.{line_of};
 ghost use Rattle.sessions.specs.Private.Striking.{class_without, multiplied, Strikes, stripped};
 
+use words::parts::Parts;
+
 // What a cycle leaves of a class: whether the class has it, and the class word without it.
 #[derive(Clone, Copy)]
 pub struct WithoutCycle {
@@ -19,24 +21,22 @@ pub struct HookLines {
     pub settled: i64,
 }
 
-// A class without one cycle: leading zeros give part after part, and what stands behind the cycle moves up.
+// A class without one cycle: its parts are read until the cycle stands there, and what stands behind it moves up.
 pub fn strike(class: u32, cycle: u64) -> WithoutCycle
     requires { class < 2 ^ 31 }
     ensures { result ≡ class_without cycle class }
 {
     let mut rest = class;
-    let mut at = 0u32;
-    while rest != 0 {
-        let one = u32::leading_zeros(rest);
-        let part = one - at;
-        let behind = rest - (1u32 << (31 - one));
+    let mut left = 31u32;
+    for part in Parts::of(class) {
+        left -= part;
+        let behind = rest - (1u32 << left);
         if part as u64 == cycle {
             return WithoutCycle {
                 found: true,
                 class: class - rest + (behind << part),
             };
         }
-        at = one;
         rest = behind;
     }
     WithoutCycle {
@@ -60,19 +60,14 @@ pub fn strip(line: u64, cycle: u32, class: u32, strip: &mut [u64]) -> HookLines
 {
     let shape = linewords::shape(line);
     let minus = linewords::minus(line);
-    let mut marks = hooks::marks(shape, cycle);
     let mut count = 0;
     let mut settled = 0i64;
-    while marks != 0 {
-        let zero = 1u32 << (31 - u32::leading_zeros(marks));
-        let stretch = hooks::stretch(zero, cycle);
-        let leaves = hooks::leaves(shape, stretch);
-        let sign = product(minus, hooks::minus(shape, stretch));
-        marks -= zero;
-        if leaves == 0 {
+    for hook in hooks::of(shape, cycle) {
+        let sign = product(minus, hook.minus);
+        if hook.leaves == 0 {
             settled += hooks::sign(sign);
         } else {
-            strip[count] = linewords::word(sign, leaves, class);
+            strip[count] = linewords::word(sign, hook.leaves, class);
             count += 1;
         }
     }

@@ -24,7 +24,7 @@ use Rattle.pages.specs.declared.Budget.{Budget}
 use Rattle.pages.specs.Page.{word_of, blank, padded}
 use Rattle.pages.specs.Budget.{budget_of, spent_all}
 use Rattle.pages.specs.Budget.Laws.{budget-sound}
-use Rattle.sessiontext.specs.declared.Loaded.{Loaded}
+use Rattle.sessiontext.specs.Calls.{Loaded}
 use Rattle.sessiontext.specs.SessionText.{Form}
 use Rattle.sessiontext.specs.SessionText.Faithful.{Faithful}
 use Rattle.sessiontext.specs.Reading.{front_faults, following_by, line_faults_by, head_faults_by, faults_by, fault_by}

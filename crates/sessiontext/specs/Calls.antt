@@ -1,6 +1,7 @@
 -- What saving and loading promise (document 02, P1: "saving checks 6, 7, 17", "loading checks 6, 16, 10, 7"; P7, "21
 -- coefficient column not as long as the page, after 6"), by a form f; without `_by`, by the plain form.
 --   loaded k line slip   a slip with the refusal number k and, where that is 16, the text's line at fault
+--   loaded_told r        what is told of a call that gives r
 --   save_by f ..          the text of a session at the front of lent bytes, the rest stays, and its length; save_into
 --   load_checks_by f ..    the checks of a load, in their order; load_checks
 --   load_by f ..          the slip that a text is read as, its lines on what is lent and zeros after them; load_into
@@ -14,13 +15,25 @@ use Rattle.pages.specs.declared.Slip.{Slip}
 use Rattle.pages.specs.Page.{blank}
 use Rattle.pages.specs.Mode.{waiting_in}
 use Rattle.pages.specs.Sound.{sound_with, page_checks_in}
-pub use Rattle.sessiontext.specs.declared.Loaded.{Loaded}
+use Rattle.std.specs.declared.result.Result.{Result}
+use Rattle.std.specs.declared.result.Result.TheVariants.{Ok, Err}
+use Rattle.words.specs.Answers.{number_of}
+use Rattle.sessiontext.specs.declared.Unloaded.{Unloaded}
 use Rattle.sessiontext.specs.SessionText.{Form, plain_form, session_text_by}
 use Rattle.sessiontext.specs.Reading.{fault_by, slip_by, lines_by}
 pub mod Laws
 
+pub record Loaded : Type 0 where
+  pub refused : ℕ
+  pub line : ℕ
+  pub slip : Slip
+
 abbrev pub loaded : ℕ → ℕ → Slip → Loaded
 loaded k line slip = record { refused = k; line = line; slip = slip }
+
+abbrev pub loaded_told : Result Slip Unloaded → Loaded
+loaded_told (Ok slip) = loaded 0 0 slip
+loaded_told (Err e) = loaded (number_of e.refusal) e.line e.slip
 
 module _ (f : Form) where
   unfoldable pub save_by : ℕ → Slip → f.mode.Lent → Text → CountAnswer × Text

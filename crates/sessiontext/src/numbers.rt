@@ -24,7 +24,7 @@ pub fn number(name: &[u8], line: &[u8]) -> NumberRead
 {
     let number = textreading::number_in(line);
     let mut own = [0u8; 32];
-    let end = fields::number(name, number, &mut own, 0);
+    let end = fields::line(name, number, &mut own, 0);
     NumberRead {
         formed: check::same(line, &own[..end]),
         number,
@@ -104,7 +104,7 @@ pub fn settled(line: &[u8]) -> IntegerRead
     }
     let number = read.number;
     let mut own = [0u8; 32];
-    let end = fields::integer(b"settled=", number, &mut own, 0);
+    let end = fields::line(b"settled=", number, &mut own, 0);
     IntegerRead {
         formed: check::same(line, &own[..end]),
         number,

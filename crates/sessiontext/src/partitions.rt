@@ -95,7 +95,7 @@ pub fn shape(line: &[u8]) -> ShapeRead
     }
     let count = read.count;
     let mut own = [0u8; 64];
-    let end = fields::list(b"shape=", &parts[..count], &mut own, 0);
+    let end = fields::line(b"shape=", &parts[..count], &mut own, 0);
     let degree = words::shapes::degree(read.word);
     ShapeRead {
         formed: check::same(line, &own[..end]),
@@ -118,7 +118,7 @@ pub fn class(line: &[u8]) -> ClassRead
     }
     let count = read.count;
     let mut own = [0u8; 64];
-    let end = fields::list(b"class=", &parts[..count], &mut own, 0);
+    let end = fields::line(b"class=", &parts[..count], &mut own, 0);
     ClassRead {
         formed: check::same(line, &own[..end]),
         word: read.word,

@@ -23,7 +23,7 @@ fn counts(line: &[u8], count: usize) -> bool
     ensures { result ≡ same line.now (field "lines=" (decimal count)) }
 {
     let mut own = [0u8; 32];
-    let end = fields::number(b"lines=", count as u64, &mut own, 0);
+    let end = fields::line(b"lines=", count as u64, &mut own, 0);
     check::same(line, &own[..end])
 }
 

@@ -11,7 +11,7 @@ ghost use Rattle.sessiontext.specs.SessionText.Storable.{StorableLineBy, Storabl
 
 use super::writing;
 use pages::Slip;
-use text::numbers;
+use text::Written;
 
 // How many bytes are enough for the text of a waiting line.
 pub const LINE_ROOM: usize = 91;
@@ -23,7 +23,7 @@ pub fn line(line: u64, coefficient: i64, out: &mut [u8], at: usize) -> usize
         at out.old result out.new }
 {
     let end = text::writing::put(b"line=", out, at);
-    let end = numbers::integer(coefficient, out, end);
+    let end = coefficient.write(out, end);
     writing::words_behind(line, out, end)
 }
 

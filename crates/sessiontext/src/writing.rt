@@ -14,7 +14,7 @@ ghost use Rattle.sessiontext.specs.SessionText.Storable.{StorableLine, Forward, 
 ghost use Rattle.pages.specs.Page.{line_of};
 
 use pages::Slip;
-use text::{fields, lists, writing};
+use text::{Written, fields, writing};
 
 // How many bytes are enough for the text of a waiting line.
 pub const LINE_ROOM: usize = 72;
@@ -34,9 +34,9 @@ fn behind(shape: &[u8], class: &[u8], out: &mut [u8], at: usize) -> usize
         at out.old result out.new }
 {
     let end = writing::byte(59, out, at);
-    let end = lists::list(shape, out, end);
+    let end = shape.write(out, end);
     let end = writing::byte(59, out, end);
-    let end = lists::list(class, out, end);
+    let end = class.write(out, end);
     writing::byte(10, out, end)
 }
 
@@ -84,7 +84,7 @@ fn shape(word: u32, out: &mut [u8], at: usize) -> usize
 {
     let mut parts = [0u8; 16];
     let count = words::shapes::parts(word, &mut parts).count;
-    fields::list(b"shape=", &parts[..count], out, at)
+    fields::line(b"shape=", &parts[..count], out, at)
 }
 
 fn class(word: u32, out: &mut [u8], at: usize) -> usize
@@ -93,7 +93,7 @@ fn class(word: u32, out: &mut [u8], at: usize) -> usize
 {
     let mut parts = [0u8; 16];
     let count = words::classes::parts(word, &mut parts).count;
-    fields::list(b"class=", &parts[..count], out, at)
+    fields::line(b"class=", &parts[..count], out, at)
 }
 
 // The degree of a shape, as a line of text.
@@ -103,7 +103,7 @@ fn degree(word: u32, out: &mut [u8], at: usize) -> usize
         at out.old result out.new }
 {
     let degree = words::shapes::degree(word);
-    fields::number(b"degree=", degree.number as u64, out, at)
+    fields::line(b"degree=", degree.number as u64, out, at)
 }
 
 // What was asked for.
@@ -121,9 +121,9 @@ fn reached(slip: Slip, lines: usize, out: &mut [u8], at: usize) -> usize
     requires { Forward slip.steps × (held slip.settled ≡ true) }
     ensures { Wrote (reached_text slip lines) at out.old result out.new }
 {
-    let end = fields::number(b"steps=", slip.steps as u64, out, at);
-    let end = fields::integer(b"settled=", slip.settled, out, end);
-    fields::number(b"lines=", lines as u64, out, end)
+    let end = fields::line(b"steps=", slip.steps as u64, out, at);
+    let end = fields::line(b"settled=", slip.settled, out, end);
+    fields::line(b"lines=", lines as u64, out, end)
 }
 
 // The first six lines, with so many lines waiting.

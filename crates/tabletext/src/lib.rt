@@ -19,10 +19,10 @@ pub fn answer(input: &[u8], out: &mut [u8; ROOM]) -> usize
 {
     let degree = reading::asked(input);
     if degree == reading::NONE {
-        return text::fields::number(b"refused=", 13, out, 0);
+        return text::fields::line(b"refused=", 13u64, out, 0);
     }
     if words::LIMIT < degree {
-        return text::fields::number(b"refused=", 12, out, 0);
+        return text::fields::line(b"refused=", 12u64, out, 0);
     }
     table::table(degree, out, 0)
 }

@@ -17,7 +17,7 @@ pub fn asked(input: &[u8]) -> u32
     }
     let degree = n as u32;
     let mut line = [0u8; 10];
-    let end = text::fields::number(b"degree=", n, &mut line, 0);
+    let end = text::fields::line(b"degree=", n, &mut line, 0);
     if check::same(input, &line[..end]) {
         degree
     } else {

@@ -21,9 +21,9 @@ fn lines(class: &[u8], size: u64, column: &[i64], out: &mut [u8], at: usize) -> 
     ensures { Wrote (class_text class.now size column.now)
         at out.old result out.new }
 {
-    let end = fields::list(b"class=", class, out, at);
-    let end = fields::number(b"size=", size, out, end);
-    fields::values(b"values=", column, out, end)
+    let end = fields::line(b"class=", class, out, at);
+    let end = fields::line(b"size=", size, out, end);
+    fields::line(b"values=", column, out, end)
 }
 
 // The lines of the class of a rank.
@@ -56,10 +56,8 @@ fn classes(degree: u32, count: u32, out: &mut [u8], at: usize) -> usize
     ensures { Wrote (joined class_lines (listing degree)) at out.old result out.new }
 {
     let mut end = at;
-    let mut rank = 0;
-    while rank < count {
+    for rank in 0..count {
         end = class(degree, rank, out, end);
-        rank += 1;
     }
     end
 }
@@ -69,8 +67,8 @@ pub fn table(degree: u32, out: &mut [u8], at: usize) -> usize
     ensures { Wrote (tableText degree (listing degree)) at out.old result out.new }
 {
     let count = count(degree);
-    let end = fields::number(b"degree=", degree as u64, out, at);
-    let end = fields::number(b"count=", count as u64, out, end);
+    let end = fields::line(b"degree=", degree as u64, out, at);
+    let end = fields::line(b"count=", count as u64, out, end);
     let end = classes(degree, count, out, end);
-    fields::number(b"end=", count as u64, out, end)
+    fields::line(b"end=", count as u64, out, end)
 }

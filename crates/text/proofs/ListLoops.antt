@@ -1,18 +1,22 @@
 -- A loop that writes the elements of a list as text, set apart by commas: after i turns the first i stand there.
 --   Reached i end out   what it has written after i turns, and where that ends
 use Rattle.std.specs.Prelude.{◌++◌, ◌+◌}
-use mathlib.Core.Path.{◌≡◌}
+use mathlib.Core.Path.{◌≡◌, refl}
 use Prim.Native.Nat.{◌≤◌, ◌<◌}
 use native.Mathlib.Numerals.{add-one}
 use native.Mathlib.Omega.{arith}
 use lib.ListN.{length-map}
 use lib.Seq.{take_all}
-use Rattle.theory.specs.Basics.{List, [], map, ℕ, suc, length, get_or, take}
+use Rattle.theory.specs.Basics.{List, [], map, ℕ, zero, suc, length, get_or, take}
 use Rattle.theory.proofs.Basics.AtPlace.{map_at}
-use Rattle.text.specs.Text.{Text, commas}
+use Rattle.text.specs.Text.{Text, ascii, commas}
 use Rattle.text.specs.Text.Lists.{separator, commas-next}
 use Rattle.text.specs.Wrote.{most, Wrote}
 use Rattle.text.specs.Wrote.Laws.{wrote_none, wrote_then, wrote-length}
+
+pub comma : (i : ℕ) → (i ≡ 0 → ⊥) → separator i ≡ ascii ","
+comma zero some = absurd (some refl)
+comma (suc i) some = refl
 
 module _ {A : Type 0} (text : A → Text) (xs : List A) (at : ℕ) (before : List ℕ) where
   abbrev pub Reached : ℕ → ℕ → List ℕ → Type 0

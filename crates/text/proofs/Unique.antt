@@ -1,16 +1,19 @@
--- No second outcome meets a contract. Each theorem is of the contract itself, as Rattle reads it (`Reads.Post`).
-use mathlib.Core.Path.{◌≡◌}
+-- No second outcome meets a contract. Each theorem is of the contract itself, as Rattle reads it (`Reads.Post`): of a
+-- value of any type, of numbers and of lists of them.
+use Rattle.std.specs.Prelude.{◌≡◌}
+use denote.Builtin.{u8, u64, i64}
+use denote.Slice.{ShrSlice}
 use Rattle.text.specs.Wrote.Laws.{wrote-once}
+use Rattle.text.specs.contracts.numbers.U8Written.TheImpl as byte-number
+use Rattle.text.specs.contracts.numbers.U64Written.TheImpl as number
+use Rattle.text.specs.contracts.numbers.I64Written.TheImpl as signed
+use Rattle.text.specs.contracts.lists.RefSliceWritten.TheImpl as list
 use Rattle.text.proofs.writing.byte.Reads as byte
 use Rattle.text.proofs.writing.put.Reads as put
-use Rattle.text.proofs.numbers.decimal.Reads as decimal
-use Rattle.text.proofs.numbers.integer.Reads as integer
-use Rattle.text.proofs.lists.list.Reads as list
-use Rattle.text.proofs.lists.values.Reads as values
-use Rattle.text.proofs.fields.number.Reads as number-line
-use Rattle.text.proofs.fields.integer.Reads as integer-line
-use Rattle.text.proofs.fields.list.Reads as list-line
-use Rattle.text.proofs.fields.values.Reads as values-line
+use Rattle.text.proofs.numbers.U64Written.write.Reads as decimal
+use Rattle.text.proofs.numbers.I64Written.write.Reads as integer
+use Rattle.text.proofs.lists.RefSliceWritten.write.Reads as values
+use Rattle.text.proofs.fields.line.Reads as line
 
 pub byte-once : (κs : _) (a : _) (r r' : _) (s s' : _) → byte.Post κs a r s → byte.Post κs a r' s'
     → (r ≡ r') × (s.1.0.now ≡ s'.1.0.now)
@@ -28,26 +31,45 @@ pub integer-once : (κs : _) (a : _) (r r' : _) (s s' : _) → integer.Post κs 
     → (r ≡ r') × (s.1.0.now ≡ s'.1.0.now)
 integer-once κs a r r' s s' p q = wrote-once p q
 
-pub list-once : (κs : _) (a : _) (r r' : _) (s s' : _) → list.Post κs a r s → list.Post κs a r' s'
+-- ---- lists
+pub any-list-once : (T L C text D K E : _) (κs : _) (a : _) (r r' : _) (s s' : _)
+    → values.Post T L C text D K E κs a r s → values.Post T L C text D K E κs a r' s'
     → (r ≡ r') × (s.1.0.now ≡ s'.1.0.now)
-list-once κs a r r' s s' p q = wrote-once p q
+any-list-once T L C text D K E κs a r r' s s' p q = wrote-once p q
 
-pub values-once : (κs : _) (a : _) (r r' : _) (s s' : _) → values.Post κs a r s → values.Post κs a r' s'
+pub list-once : (L C D K E : _) (κs : _) (a : _) (r r' : _) (s s' : _)
+    → values.Post u8 L C byte-number.ghosts D K E κs a r s → values.Post u8 L C byte-number.ghosts D K E κs a r' s'
     → (r ≡ r') × (s.1.0.now ≡ s'.1.0.now)
-values-once κs a r r' s s' p q = wrote-once p q
+list-once L C = any-list-once u8 L C byte-number.ghosts
 
-pub number-line-once : (κs : _) (a : _) (r r' : _) (s s' : _) → number-line.Post κs a r s → number-line.Post κs a r' s'
+pub values-once : (L C D K E : _) (κs : _) (a : _) (r r' : _) (s s' : _)
+    → values.Post i64 L C signed.ghosts D K E κs a r s → values.Post i64 L C signed.ghosts D K E κs a r' s'
+    → (r ≡ r') × (s.1.0.now ≡ s'.1.0.now)
+values-once L C = any-list-once i64 L C signed.ghosts
+
+-- ---- lines
+pub line-once : (T L C text D K E : _) (κs : _) (a : _) (r r' : _) (s s' : _)
+    → line.Post T L C text D K E κs a r s → line.Post T L C text D K E κs a r' s'
     → (r ≡ r') × (s.1.1.0.now ≡ s'.1.1.0.now)
-number-line-once κs a r r' s s' p q = wrote-once p q
+line-once T L C text D K E κs a r r' s s' p q = wrote-once p q
 
-pub integer-line-once : (κs : _) (a : _) (r r' : _) (s s' : _) → integer-line.Post κs a r s
-    → integer-line.Post κs a r' s' → (r ≡ r') × (s.1.1.0.now ≡ s'.1.1.0.now)
-integer-line-once κs a r r' s s' p q = wrote-once p q
-
-pub list-line-once : (κs : _) (a : _) (r r' : _) (s s' : _) → list-line.Post κs a r s → list-line.Post κs a r' s'
+pub number-line-once : (L C D K E : _) (κs : _) (a : _) (r r' : _) (s s' : _)
+    → line.Post u64 L C number.ghosts D K E κs a r s → line.Post u64 L C number.ghosts D K E κs a r' s'
     → (r ≡ r') × (s.1.1.0.now ≡ s'.1.1.0.now)
-list-line-once κs a r r' s s' p q = wrote-once p q
+number-line-once L C = line-once u64 L C number.ghosts
 
-pub values-line-once : (κs : _) (a : _) (r r' : _) (s s' : _) → values-line.Post κs a r s → values-line.Post κs a r' s'
+pub integer-line-once : (L C D K E : _) (κs : _) (a : _) (r r' : _) (s s' : _)
+    → line.Post i64 L C signed.ghosts D K E κs a r s → line.Post i64 L C signed.ghosts D K E κs a r' s'
     → (r ≡ r') × (s.1.1.0.now ≡ s'.1.1.0.now)
-values-line-once κs a r r' s s' p q = wrote-once p q
+integer-line-once L C = line-once i64 L C signed.ghosts
+
+module _ (ℓ κ : _) (B M H L C D K E : _) (κs : _) (a : _) (r r' : _) (s s' : _) where
+  pub list-line-once : line.Post (ShrSlice ℓ κ u8) L C (list.ghosts u8 byte-number.ghosts B M H) D K E κs a r s
+      → line.Post (ShrSlice ℓ κ u8) L C (list.ghosts u8 byte-number.ghosts B M H) D K E κs a r' s'
+      → (r ≡ r') × (s.1.1.0.now ≡ s'.1.1.0.now)
+  list-line-once p q = wrote-once p q
+
+  pub values-line-once : line.Post (ShrSlice ℓ κ i64) L C (list.ghosts i64 signed.ghosts B M H) D K E κs a r s
+      → line.Post (ShrSlice ℓ κ i64) L C (list.ghosts i64 signed.ghosts B M H) D K E κs a r' s'
+      → (r ≡ r') × (s.1.1.0.now ≡ s'.1.1.0.now)
+  values-line-once p q = wrote-once p q

@@ -1,46 +1,44 @@
-// Numbers in decimal (see `writing`).
-ghost use Rattle.std.specs.Prelude.{◌≡◌, nat_abs};
-ghost use Rattle.text.specs.Text.{decimal as decimalText, minus_sign as minusText, integer as integerText};
-ghost use Rattle.text.specs.Wrote.{Wrote};
+// Numbers in decimal.
+ghost use Rattle.text.specs.Text.{decimal, integer};
 
-use super::writing;
+use super::{Written, writing};
 
-// A number of one digit or two, as most are, needs no buffer.
-pub fn decimal(n: u64, out: &mut [u8], at: usize) -> usize
-    ensures { Wrote (decimalText n) at out.old result out.new }
-{
-    if n < 10 {
-        return writing::byte(48 + n as u8, out, at);
+impl Written for u8 {
+    ghost text = { decimal };
+
+    fn write(self, out: &mut [u8], at: usize) -> usize {
+        u64::from(self).write(out, at)
     }
-    if n < 100 {
-        let end = writing::byte(48 + (n / 10) as u8, out, at);
-        return writing::byte(48 + (n % 10) as u8, out, end);
-    }
-    let mut digits = [0u8; 20];
-    let count = io::decimal(n, &mut digits);
-    writing::put(&digits[..count], out, at)
 }
 
-// A minus where a number is negative.
-fn minus(z: i64, out: &mut [u8], at: usize) -> usize
-    ensures { Wrote (minusText z) at out.old result out.new }
-{
-    if z < 0 {
-        return writing::byte(45, out, at);
+impl Written for u64 {
+    ghost text = { decimal };
+
+    // A number of one digit or two, as most are, needs no buffer.
+    fn write(self, out: &mut [u8], at: usize) -> usize {
+        if self < 10 {
+            return writing::byte(b'0' + self as u8, out, at);
+        }
+        if self < 100 {
+            let end = writing::byte(b'0' + (self / 10) as u8, out, at);
+            return writing::byte(b'0' + (self % 10) as u8, out, end);
+        }
+        let mut digits = [0u8; 20];
+        let count = io::decimal(self, &mut digits);
+        writing::put(&digits[..count], out, at)
     }
-    at
 }
 
-fn size(z: i64) -> u64
-    ensures { result ≡ nat_abs z }
-{
-    if z < 0 { (!z) as u64 + 1 } else { z as u64 }
-}
+impl Written for i64 {
+    ghost text = { integer };
 
-// A number in decimal, with a minus in front of a negative one.
-pub fn integer(z: i64, out: &mut [u8], at: usize) -> usize
-    ensures { Wrote (integerText z) at out.old result out.new }
-{
-    let end = minus(z, out, at);
-    decimal(size(z), out, end)
+    // A negative number has a minus in front.
+    fn write(self, out: &mut [u8], at: usize) -> usize {
+        let end = if self < 0 {
+            writing::byte(b'-', out, at)
+        } else {
+            at
+        };
+        self.unsigned_abs().write(out, end)
+    }
 }

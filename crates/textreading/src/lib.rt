@@ -14,61 +14,42 @@ use text::writing;
 pub fn find(byte: u8, text: &[u8], at: usize) -> usize
     ensures { result ≡ at + length (before byte (drop at text.now)) }
 {
-    let mut place = at;
-    while place < text.len() {
-        if text[place] == byte {
-            return place;
-        }
-        place += 1;
+    if text.len() <= at {
+        return at;
     }
-    place
+    match text[at..].iter().position(|other| *other == byte) {
+        Some(passed) => at + passed,
+        None => text.len(),
+    }
 }
 
 // A number with a byte behind it: a digit is its last digit, and any other byte says nothing.
 fn step(number: u64, byte: u8) -> u64
     ensures { result ≡ min (step_of number byte) most }
 {
-    if byte < 48 {
-        return number;
+    match byte {
+        b'0'..=b'9' => number
+            .saturating_mul(10)
+            .saturating_add(u64::from(byte - b'0')),
+        _ => number,
     }
-    if 57 < byte {
-        return number;
-    }
-    let digit = (byte - 48) as u64;
-    if (18_446_744_073_709_551_615 - digit) / 10 < number {
-        return 18_446_744_073_709_551_615;
-    }
-    number * 10 + digit
 }
 
 // The number that the digits in a text give, and the greatest of 64 bits for any greater one.
 pub fn number_in(text: &[u8]) -> u64
     ensures { result ≡ min (number_in text.now) most }
 {
-    let mut number = 0u64;
-    let mut i = 0;
-    while i < text.len() {
-        number = step(number, text[i]);
-        i += 1;
-    }
-    number
+    text.iter().fold(0, |number, byte| step(number, *byte))
 }
 
-// What a byte has of a number.
-fn small(number: u64) -> u8
-    ensures { result ≡ smallOf number }
-{
-    if 255 < number { 255 } else { number as u8 }
-}
-
-// A number behind those that were read, unless it is 0.
+// A number behind those that were read, unless it is 0. A byte has 255 of a greater one.
 fn keep(number: u64, column: &mut [u8], at: usize) -> usize
     ensures { Wrote (map smallOf (kept (number ∷ []))) at column.old result column.new }
 {
     if number == 0 {
         return at;
     }
-    writing::byte(small(number), column, at)
+    writing::byte(number.min(255) as u8, column, at)
 }
 
 // The numbers that commas set apart in a text, zeros left out, at the front of a lent column; their count is the
@@ -76,18 +57,15 @@ fn keep(number: u64, column: &mut [u8], at: usize) -> usize
 pub fn list_in(text: &[u8], column: &mut [u8]) -> usize
     ensures { Wrote (map smallOf (list_in text.now)) 0 column.old result column.new }
 {
-    let mut number = 0u64;
+    let mut number = 0;
     let mut count = 0;
-    let mut i = 0;
-    while i < text.len() {
-        let byte = text[i];
-        if byte == 44 {
+    for byte in text {
+        if *byte == b',' {
             count = keep(number, column, count);
             number = 0;
         } else {
-            number = step(number, byte);
+            number = step(number, *byte);
         }
-        i += 1;
     }
     keep(number, column, count)
 }
@@ -96,27 +74,23 @@ pub fn list_in(text: &[u8], column: &mut [u8]) -> usize
 pub fn line_end(text: &[u8], at: usize) -> usize
     ensures { result ≡ at + length (first_line (drop at text.now)) }
 {
-    let place = find(10, text, at);
-    if place < text.len() {
-        return place + 1;
-    }
-    place
+    let place = find(b'\n', text, at);
+    if place < text.len() { place + 1 } else { place }
 }
 
-// How many lines a text has: its newlines, and one more where it does not end in one.
+// How many lines a text has: its newlines, and one more where it does not end in one. (By `filter` and `count` this takes
+// half as long again.)
 pub fn line_count(text: &[u8]) -> usize
     ensures { result ≡ length (lines_of text.now) }
 {
     let mut count = 0;
-    let mut i = 0;
-    while i < text.len() {
-        if text[i] == 10 {
+    for byte in text {
+        if *byte == b'\n' {
             count += 1;
         }
-        i += 1;
     }
-    if i == 0 {
-        return 0;
+    match text.last() {
+        Some(byte) if *byte != b'\n' => count + 1,
+        _ => count,
     }
-    if text[i - 1] == 10 { count } else { count + 1 }
 }

@@ -1,8 +1,8 @@
 -- A loop that multiplies while it goes through the parts of a class word: with the parts `left` before it, its product
 -- is at most the factorial of the degree that the largest limit leaves to those behind it, so there is room.
 --   Multiplying left product   such a loop, where the parts `left` are to be read
---   Factor rest product        what a turn of it finds that leaves the parts `rest`: room for a factor within the degree
---                              that is then left
+--   Factor rest product        what a turn of it finds that leaves the parts `rest`: room for a factor within the
+--                              degree that is then left
 use Rattle.std.specs.Prelude.{◌≡◌, ◌≤◌, ◌<◌, ◌∷◌, ◌-◌, ◌*◌, ◌^◌}
 use Rattle.std.proofs.Common.{ap, arith}
 use Rattle.theory.specs.Basics.{ℕ}

@@ -7,7 +7,6 @@ pub mod Factorials
 pub mod PartLists
 pub mod Columns
 pub mod PartsLeft
-pub mod ClassLoops
 pub mod ClassProducts
 pub mod ClassWriting
 pub mod Unique

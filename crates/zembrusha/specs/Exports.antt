@@ -17,10 +17,10 @@ use Rattle.words.specs.Answers.{CountAnswer}
 use Rattle.words.specs.Answers.{GoodAnswer}
 use Rattle.words.specs.Answers.{NumberAnswer}
 use Rattle.words.specs.Answers.{WordAnswer}
-use Rattle.oldlists.specs.declared.ListAnswer.{ListAnswer}
+use Rattle.oldlists.specs.Lists.{ListAnswer}
 use Rattle.pages.specs.declared.Slip as calculator
-use Rattle.sessions.specs.declared.Handed as calculator-handed
-use Rattle.sessiontext.specs.declared.Loaded as calculator-loaded
+use Rattle.sessions.specs.Opening as calculator-handed
+use Rattle.sessiontext.specs.Calls as calculator-loaded
 use Rattle.characters.specs.Watch.{Value, whole, quotient, none}
 use Rattle.zembrusha.specs.declared.Number.{Number}
 use Rattle.zembrusha.specs.declared.Good.{Good}

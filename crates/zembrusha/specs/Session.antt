@@ -18,12 +18,12 @@ use Rattle.words.specs.Answers.{CountAnswer}
 use Rattle.words.specs.Answers.{Outcome}
 use Rattle.text.specs.Text.{Text}
 use Rattle.pages.specs.declared.Slip as calculator-slip
-use Rattle.sessions.specs.declared.Handed as calculator-handed
+use Rattle.sessions.specs.Opening as calculator-handed
 use Rattle.sessions.specs.Opening.{opening_in}
 use Rattle.sessions.specs.Step.{preview_in, commit_in}
 use Rattle.characters.specs.Watch.{watch_in}
 use Rattle.characters.specs.Watch.Answers.{said}
-use Rattle.sessiontext.specs.declared.Loaded as calculator-loaded
+use Rattle.sessiontext.specs.Calls as calculator-loaded
 use Rattle.sessiontext.specs.SessionText.{Form}
 use Rattle.sessiontext.specs.Calls.{save_by, load_by}
 use Rattle.sessionruns.specs.Run as calculator

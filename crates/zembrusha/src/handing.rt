@@ -7,40 +7,63 @@ ghost use Rattle.zembrusha.specs.Exports.{loaded_over, number, fraction};
 use super::{Good, Handed, Listed, Loaded, Number, Slip};
 use characters::Watched;
 
-pub fn of_word(answer: words::WordAnswer) -> Number
-    ensures { result ≡ of_word answer }
+// The number of a refusal, 0 for none.
+pub fn refused<T: Copy>(answer: Result<T, Refusal>) -> u32
+    ensures { result ≡ refusal_of answer }
+{
+    match answer {
+        Ok(_) => 0,
+        Err(refusal) => refusal.number() as u32,
+    }
+}
+
+pub fn of_word(answer: Result<u32, Refusal>) -> Number
+    ensures { result ≡ of_word (word_told answer) }
 {
     Number {
-        refused: answer.refused as u32,
-        number: answer.word as u64,
+        refused: refused(answer),
+        number: answer.unwrap_or(0) as u64,
     }
 }
 
-pub fn of_count(answer: words::CountAnswer) -> Number
-    ensures { result ≡ of_count answer }
+pub fn of_count(answer: Result<usize, Refusal>) -> Number
+    ensures { result ≡ of_count (count_told answer) }
 {
     Number {
-        refused: answer.refused as u32,
-        number: answer.count as u64,
+        refused: refused(answer),
+        number: answer.unwrap_or(0) as u64,
     }
 }
 
-pub fn of_good(answer: words::GoodAnswer) -> Good
-    ensures { result ≡ of_good answer }
+pub fn of_good(answer: Result<words::Good, Refusal>) -> Good
+    ensures { result ≡ of_good (good_told answer) }
 {
-    Good {
-        refused: answer.refused as u32,
-        word: answer.word,
-        dropped: answer.dropped,
+    match answer {
+        Ok(good) => Good {
+            refused: 0,
+            word: good.word,
+            dropped: good.dropped,
+        },
+        Err(refusal) => Good {
+            refused: refusal.number() as u32,
+            word: 0,
+            dropped: 0,
+        },
     }
 }
 
-pub fn of_list(answer: oldlists::ListAnswer) -> Listed
-    ensures { result ≡ of_list answer }
+pub fn of_list(answer: Result<(), Rejected>) -> Listed
+    ensures { result ≡ of_list (list_told answer) }
 {
-    Listed {
-        refused: answer.refused as u32,
-        index: answer.index as u64,
+    match answer {
+        Ok(()) => Listed {
+            refused: 0,
+            index: 0,
+        },
+        Err(rejected) => Listed {
+            refused: rejected.refusal.number() as u32,
+            index: rejected.index as u64,
+        },
     }
 }
 

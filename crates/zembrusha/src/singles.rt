@@ -15,14 +15,14 @@ use super::{Good, handing};
 pub extern "C" fn zembrusha_character(shape: u32, class: u32) -> i64
     ensures { result ≡ (character_of degree_limit shape class).number }
 {
-    characters::character(shape, class).number
+    characters::character(shape, class).unwrap_or(0)
 }
 
 #[unsafe(no_mangle)]
 pub extern "C" fn zembrusha_character_refusal(shape: u32, class: u32) -> u32
     ensures { result ≡ (character_of degree_limit shape class).refused }
 {
-    characters::character(shape, class).refused as u32
+    handing::refused(characters::character(shape, class))
 }
 
 // The good word of a shape word, and how many ones in front were dropped, with the refusal number.
@@ -38,14 +38,14 @@ pub extern "C" fn zembrusha_good_shape(word: u32) -> Good
 pub extern "C" fn zembrusha_degree(shape: u32) -> i64
     ensures { result ≡ (shape_degree degree_limit shape).number }
 {
-    words::shapes::degree(shape).number
+    words::shapes::degree(shape).unwrap_or(0) as i64
 }
 
 #[unsafe(no_mangle)]
 pub extern "C" fn zembrusha_degree_refusal(shape: u32) -> u32
     ensures { result ≡ (shape_degree degree_limit shape).refused }
 {
-    words::shapes::degree(shape).refused as u32
+    handing::refused(words::shapes::degree(shape))
 }
 
 // The character degree of a shape word.
@@ -53,14 +53,14 @@ pub extern "C" fn zembrusha_degree_refusal(shape: u32) -> u32
 pub extern "C" fn zembrusha_character_degree(shape: u32) -> i64
     ensures { result ≡ (shape_character_degree degree_limit shape).number }
 {
-    characters::character_degree(shape).number
+    characters::character_degree(shape).unwrap_or(0)
 }
 
 #[unsafe(no_mangle)]
 pub extern "C" fn zembrusha_character_degree_refusal(shape: u32) -> u32
     ensures { result ≡ (shape_character_degree degree_limit shape).refused }
 {
-    characters::character_degree(shape).refused as u32
+    handing::refused(characters::character_degree(shape))
 }
 
 // The word of the conjugate shape.
@@ -68,14 +68,14 @@ pub extern "C" fn zembrusha_character_degree_refusal(shape: u32) -> u32
 pub extern "C" fn zembrusha_conjugate(shape: u32) -> u32
     ensures { result ≡ (conjugate_shape degree_limit shape).word }
 {
-    words::shapes::conjugate(shape).word
+    words::shapes::conjugate(shape).unwrap_or(0)
 }
 
 #[unsafe(no_mangle)]
 pub extern "C" fn zembrusha_conjugate_refusal(shape: u32) -> u32
     ensures { result ≡ (conjugate_shape degree_limit shape).refused }
 {
-    words::shapes::conjugate(shape).refused as u32
+    handing::refused(words::shapes::conjugate(shape))
 }
 
 // The sign of a class word.
@@ -83,14 +83,14 @@ pub extern "C" fn zembrusha_conjugate_refusal(shape: u32) -> u32
 pub extern "C" fn zembrusha_class_sign(class: u32) -> i64
     ensures { result ≡ (sign_of_class degree_limit class).number }
 {
-    words::classes::sign(class).number
+    words::classes::sign(class).unwrap_or(0)
 }
 
 #[unsafe(no_mangle)]
 pub extern "C" fn zembrusha_class_sign_refusal(class: u32) -> u32
     ensures { result ≡ (sign_of_class degree_limit class).refused }
 {
-    words::classes::sign(class).refused as u32
+    handing::refused(words::classes::sign(class))
 }
 
 // The number of elements of a class.
@@ -98,14 +98,14 @@ pub extern "C" fn zembrusha_class_sign_refusal(class: u32) -> u32
 pub extern "C" fn zembrusha_class_size(class: u32) -> i64
     ensures { result ≡ (size_of_class degree_limit class).number }
 {
-    words::classes::size(class).number
+    words::classes::size(class).unwrap_or(0)
 }
 
 #[unsafe(no_mangle)]
 pub extern "C" fn zembrusha_class_size_refusal(class: u32) -> u32
     ensures { result ≡ (size_of_class degree_limit class).refused }
 {
-    words::classes::size(class).refused as u32
+    handing::refused(words::classes::size(class))
 }
 
 // The period of a class: the least positive number that every part divides.
@@ -113,12 +113,12 @@ pub extern "C" fn zembrusha_class_size_refusal(class: u32) -> u32
 pub extern "C" fn zembrusha_class_period(class: u32) -> i64
     ensures { NumberOf (PeriodOfClass degree_limit class) result }
 {
-    words::classes::period(class).number
+    words::classes::period(class).unwrap_or(0)
 }
 
 #[unsafe(no_mangle)]
 pub extern "C" fn zembrusha_class_period_refusal(class: u32) -> u32
     ensures { result ≡ first_of (class_checks degree_limit class) }
 {
-    words::classes::period(class).refused as u32
+    handing::refused(words::classes::period(class))
 }

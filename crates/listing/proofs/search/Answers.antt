@@ -1,65 +1,86 @@
--- `listing::search`: the words of a degree are asked up to the word's rank, and only that word is the one.
-use Rattle.std.proofs.Common.{◌≡◌, sym, ap, ap₂, ◌∙◌, ◌+◌, ◌≤◌, ◌<◌}
-use native.Mathlib.Omega.{arith}
-use Rattle.theory.specs.Basics.{List, ℕ, get_or, length}
+-- The word stands first at its rank, among the words of its degree.
+use Rattle.std.specs.Prelude.{◌≡◌, ◌==◌, ◌+◌, ◌<◌, ◌≤◌, Some, None, position, slice_range}
+use Rattle.std.proofs.Common.{◌∙◌, ap, sym, arith}
+use Rattle.theory.specs.Basics.{List, ℕ, length}
 use Rattle.theory.specs.Partition.{degree}
 use Rattle.theory.specs.ShapeWord.{shape_of}
-use Rattle.theory.specs.Listing.{rank, start}
+use Rattle.theory.specs.Listing.{listing, rank, start}
 use Rattle.theory.specs.Limits.{degree_limit}
 use Rattle.theory.specs.Refusals.Laws.{Within}
-use Rattle.listing.specs.Calls.{SectionAnswer, section_told}
+use Rattle.std.specs.declared.result.Result.TheVariants.{Ok}
+use Rattle.listing.specs.Calls.{SectionAnswer, section_of, section_told}
 use Rattle.listing.specs.Private.Tables.{shape_words, word_count}
-use Rattle.listing.proofs.Indexes.{words-counted, section-given, section-found, rank-inside, rank-found, rank-ahead}
+use Rattle.listing.proofs.Indexes.{words-counted, section-found, section-given, section-inside, ranked, stands_at_rank}
 use Rattle.listing.proofs.search.Goals as goal
 
--- an index that is not behind the word, and what is read there
-module _ {w i from : ℕ} (h : Within degree_limit w)
-    (known : (from ≡ start (degree (shape_of w))) × (i ≤ rank (shape_of w))) where
-  inside : from + i < word_count
-  inside = omega (arith, rank-inside degree_limit w i h known.1, known.0, words-counted)
+record Among (w : ℕ) (ws : List ℕ) (r : SectionAnswer) : Type 0 where
+  inside : r.start + r.count ≤ length ws
+  short : length ws ≡ word_count
+  ahead : rank (shape_of w) < r.count
+  stands : position (λ other. other == w) (slice_range ws r.start (r.start + r.count)) ≡ Some (rank (shape_of w))
 
-  module _ {words : List ℕ} (table : words ≡ shape_words) where
-    read : get_or words (from + i) 0 ≡ get_or shape_words (start (degree (shape_of w)) + i) 0
-    read = ap₂ (λ (l : List ℕ) (k : ℕ). get_or l (k + i) 0) table known.0
+among : (w d : ℕ) (ws : List ℕ) (r : SectionAnswer)
+    → (ws ≡ shape_words) × Within degree_limit w × (d ≡ degree (shape_of w)) → r ≡ section_of degree_limit d → Among w ws r
+among w d ws r q e =
+    let small : d ≤ degree_limit = omega (arith, q.2, q.1.small) in
+    let s = section-given degree_limit d r e small in
+    let from = ap (λ (x : SectionAnswer). x.start) s ∙ ap start q.2 in
+    let counted = ap (λ (x : SectionAnswer). x.count) s ∙ ap (λ n. length (listing n)) q.2 in
+    record {
+      inside = section-inside degree_limit w (omega arith) q.1 ws r.start r.count q.0 from counted;
+      short = ap length q.0 ∙ words-counted;
+      ahead = ranked degree_limit w (omega arith) q.1 ws r.start r.count q.0 from counted;
+      stands = stands_at_rank degree_limit w (omega arith) q.1 ws r.start r.count q.0 from counted;
+    }
 
-    ahead : (get_or words (from + i) 0 ≡ w → ⊥) → i < rank (shape_of w)
-    ahead other = rank-ahead degree_limit w i h known.1 (λ e. other (read ∙ e))
-
-    found : get_or words (from + i) 0 ≡ w → rank (shape_of w) ≡ i
-    found e = rank-found degree_limit w i h known.1 (omega arith) (sym read ∙ e)
-
-pub unwrap-start-requires : goal.unwrap-start-requires
-unwrap-start-requires c =
+pub unwrap-section-requires : goal.unwrap-section-requires
+unwrap-section-requires c =
     section-found degree_limit _ c.section.result c.section.ensures (omega (arith, c.requires.2, c.requires.1.small))
 
-pub loop-rank-init : goal.loop-rank-init
-loop-rank-init c =
-    let told = sym (ap section_told c.unwrap-start.ensures) ∙ c.section.ensures in
-    let given = section-given degree_limit _ _ told (omega (arith, c.requires.2, c.requires.1.small)) in
-    (ap (λ (x : SectionAnswer). x.start) given ∙ ap start c.requires.2, omega arith)
+same : (i r : ℕ) → Some i ≡ Some r → i ≡ r
+same i r e = cc
 
-pub overflow_add-start : goal.overflow_add-start
-overflow_add-start c = omega (arith, inside c.requires.1 c.loop-rank.invariant)
+pub overflow_add-of_degree : goal.overflow_add-of_degree
+overflow_add-of_degree c =
+    omega (
+      arith,
+      among c.args.word c.args.degree _ (section_told (Ok c.unwrap-section.result)) c.requires
+          (sym (ap section_told c.unwrap-section.ensures) ∙ c.section.ensures),
+    )
 
-pub offset_bounds-words-start : goal.offset_bounds-words-start
-offset_bounds-words-start c = omega (arith, inside c.requires.1 c.loop-rank.invariant)
+pub offset_bounds-words-section : goal.offset_bounds-words-section
+offset_bounds-words-section c =
+    omega (
+      arith,
+      among c.args.word c.args.degree _ (section_told (Ok c.unwrap-section.result)) c.requires
+          (sym (ap section_told c.unwrap-section.ensures) ∙ c.section.ensures),
+    )
 
-pub bounds-words-start : goal.bounds-words-start
-bounds-words-start c =
-    omega (arith, inside c.requires.1 c.loop-rank.invariant, ap length c.requires.0, words-counted)
+pub slice_bounds-of_degree-end : goal.slice_bounds-of_degree-end
+slice_bounds-of_degree-end c =
+    omega (
+      arith,
+      among c.args.word c.args.degree _ (section_told (Ok c.unwrap-section.result)) c.requires
+          (sym (ap section_told c.unwrap-section.ensures) ∙ c.section.ensures),
+    )
 
-pub overflow_add-rank : goal.overflow_add-rank
-overflow_add-rank c = omega (arith, inside c.requires.1 c.loop-rank.invariant)
+pub overflow_cast-result : goal.overflow_cast-result
+overflow_cast-result c =
+    let a = among c.args.word c.args.degree _ (section_told (Ok c.unwrap-section.result)) c.requires
+    (sym (ap section_told c.unwrap-section.ensures) ∙ c.section.ensures) in
+    omega (arith, same _ _ (c.in-Some.ensures ∙ a.stands), a.ahead, a.inside, a.short)
 
-pub loop-rank-smaller : goal.loop-rank-smaller
-loop-rank-smaller c =
-    omega (arith, ahead c.requires.1 c.loop-rank.invariant c.requires.0 c.loop-rank-test.true)
+pub returns-in-Some : goal.returns-in-Some
+returns-in-Some c =
+    let a = among c.args.word c.args.degree _ (section_told (Ok c.unwrap-section.result)) c.requires
+    (sym (ap section_told c.unwrap-section.ensures) ∙ c.section.ensures) in
+    same _ _ (c.in-Some.ensures ∙ a.stands)
 
-pub loop-rank-preserved : goal.loop-rank-preserved
-loop-rank-preserved c = (
-  c.loop-rank.invariant.0,
-  omega (arith, ahead c.requires.1 c.loop-rank.invariant c.requires.0 c.loop-rank-test.true),
-)
+none : (r : ℕ) → None ≡ Some r → 0 ≡ r
+none r e = cc
 
-pub returns : goal.returns
-returns c = sym (found c.requires.1 c.loop-rank.invariant c.requires.0 c.loop-rank-test.false)
+pub returns-in-None : goal.returns-in-None
+returns-in-None c =
+    let a = among c.args.word c.args.degree _ (section_told (Ok c.unwrap-section.result)) c.requires
+    (sym (ap section_told c.unwrap-section.ensures) ∙ c.section.ensures) in
+    none _ (c.in-None.ensures ∙ a.stands)

@@ -15,7 +15,7 @@ use Rattle.text.specs.Text.{Text}
 use Rattle.pages.specs.declared.Slip.{Slip}
 use Rattle.pages.specs.Line.{Line}
 use Rattle.pages.specs.Mode.{Mode, waiting_in}
-use Rattle.sessiontext.specs.declared.Loaded.{Loaded}
+use Rattle.sessiontext.specs.Calls.{Loaded}
 use Rattle.sessiontext.specs.SessionText.{Form}
 use Rattle.sessiontext.specs.SessionText.Faithful.{Faithful}
 use Rattle.sessiontext.specs.Calls.{loaded as loaded_as, save_by, load_by}

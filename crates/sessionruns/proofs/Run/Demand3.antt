@@ -9,7 +9,7 @@ use Rattle.theory.specs.ShapeWord.{shape_of}
 use Rattle.theory.proofs.ShapeWord.InFront.{dropped-shape}
 use Rattle.theory.specs.ClassWord.{class_of}
 use Rattle.theory.specs.Character.{◌on◌}
-use Rattle.sessions.specs.declared.Handed.{Handed}
+use Rattle.sessions.specs.Opening.{Handed}
 use Rattle.pages.specs.Sound.Laws.{sound-is}
 use Rattle.sessions.specs.Opening.Laws.{Opened, opening-opened}
 use Rattle.pages.specs.Line.{Line, signed_character}

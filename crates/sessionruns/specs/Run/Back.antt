@@ -4,7 +4,7 @@
 --                it back at `then`: slip, what is lent and count are those of then, and what was saved stays saved
 use Rattle.std.specs.Prelude.{◌≡◌}
 use Rattle.text.specs.Text.{Text}
-use Rattle.sessiontext.specs.declared.Loaded.{Loaded}
+use Rattle.sessiontext.specs.Calls.{Loaded}
 use Rattle.sessionruns.specs.Run.{loaded, Standing, standing, Belongs, after}
 
 pub record PutBack {L : Type 0} (then now : Standing L) (text : Text) (a : Loaded) (y : L) : Type 0 where

@@ -17,7 +17,7 @@ use Rattle.text.specs.Text.{Text}
 use Rattle.pages.specs.Sound.{sound_in}
 use Rattle.pages.specs.Page.{worth}
 use Rattle.pages.specs.Mode.{waiting_in}
-use Rattle.sessiontext.specs.declared.Loaded.{Loaded}
+use Rattle.sessiontext.specs.Calls.{Loaded}
 use Rattle.sessiontext.specs.SessionText.{Form}
 use Rattle.sessiontext.specs.SessionText.Faithful.{Faithful}
 use Rattle.sessiontext.specs.Calls.{load_by}

@@ -12,7 +12,7 @@ use Rattle.theory.specs.Refusals.{first_of}
 use Rattle.words.specs.Answers.{Outcome}
 use Rattle.text.specs.Text.{Text}
 use Rattle.pages.specs.declared.Slip.{Slip}
-use Rattle.sessions.specs.declared.Handed.{Handed}
+use Rattle.sessions.specs.Opening.{Handed}
 use Rattle.pages.specs.Line.{Line}
 use Rattle.pages.specs.Page.{worth}
 use Rattle.pages.specs.Mode.{Mode, waiting_in}
@@ -20,7 +20,7 @@ use Rattle.pages.specs.Sound.Laws.{SoundIn}
 use Rattle.pages.specs.Lawful.{Lawful}
 use Rattle.sessions.specs.Step.{next_lines_in, next_slip_in, commit_checks_in, finished_in, commit_in}
 use Rattle.sessions.proofs.Step.Laws.{accepted, next-sound-in, next-waits, next-worth-in}
-use Rattle.sessiontext.specs.declared.Loaded.{Loaded}
+use Rattle.sessiontext.specs.Calls.{Loaded}
 use Rattle.sessiontext.specs.SessionText.{Form}
 use Rattle.sessiontext.specs.SessionText.Faithful.{Faithful}
 use Rattle.sessiontext.specs.Calls.{load_by}

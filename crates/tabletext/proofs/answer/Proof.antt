@@ -35,19 +35,19 @@ whole c =
 asked-requires : tie.Need-asked-degree-requires
 asked-requires c κs = search rules
 
-number-requires : tie.Need-number-requires
+number-requires : tie.Need-line-requires
 number-requires c κs = search rules
 
 returns : tie.Need-returns-then-degree-eq-NONE
 returns c =
-    answered _ _ c.number-arg-then-degree-eq-NONE-2-1.given.0.1 (nothing c.before.before.before.before) c.number.ensures
+    answered _ _ c.line-arg-then-degree-eq-NONE-2-1.given.0.1 (nothing c.before.before.before.before) c.line.ensures
 
-number-requires-2 : tie.Need-number-requires-then-degree-gt-LIMIT
+number-requires-2 : tie.Need-line-requires-then-degree-gt-LIMIT
 number-requires-2 c κs = search rules
 
 returns-2 : tie.Need-returns-then-degree-gt-LIMIT
 returns-2 c =
-    answered _ _ c.number-arg-then-degree-gt-LIMIT-3-1.given.0.1 (too_much c.before.before.before.before) c.number-then-degree-gt-LIMIT.ensures
+    answered _ _ c.line-arg-then-degree-gt-LIMIT-3-1.given.0.1 (too_much c.before.before.before.before) c.line-then-degree-gt-LIMIT.ensures
 
 table-requires : tie.Need-table-requires
 table-requires c κs = search rules

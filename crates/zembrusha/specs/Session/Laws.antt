@@ -6,7 +6,7 @@ use Rattle.theory.specs.Basics.{List, [], ℕ, zero, suc, ℤ}
 use Rattle.theory.specs.Refusals.{first_of, refused_or}
 use Rattle.theory.specs.Limits.{degree_limit}
 use Rattle.words.specs.Answers.{Outcome}
-use Rattle.sessions.specs.declared.Handed as calculator-handed
+use Rattle.sessions.specs.Opening as calculator-handed
 use Rattle.pages.specs.declared.Slip as calculator-slip
 use Rattle.pages.specs.Mode.{Mode, waiting_in}
 use Rattle.characters.specs.Watch.{Value, whole, quotient, none, reads, shown_in, watch_checks_in, watch_in}

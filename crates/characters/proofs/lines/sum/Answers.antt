@@ -15,7 +15,8 @@ next : (words : List ℕ) {i : ℕ} {z : ℤ} → Each (SoundLine largest_limit)
     → values (map line_of words) < 2 ^ 63 → Summing largest_limit (map line_of words) i z → i < length words
     → NextLine largest_limit (map line_of words) i z (line_of (get_or words i 0))
 next words {i} {z} each small so_far inside =
-    sum-next _ _ each small i z so_far (omega (arith, length-map words line_of)) _ (get_or-map line_of words i 0 (line_of 0) inside)
+    sum-next _ _ each small i z so_far (omega (arith, length-map words line_of)) _
+    (get_or-map line_of words i 0 (line_of 0) inside)
 
 pub add_line-sum-requires : goal.add_line-sum-requires
 add_line-sum-requires c =

@@ -1,5 +1,5 @@
--- The hook walk strikes the longest cycle and adds what each hook counts; the value of a smaller word stands in the row,
--- at degree 4 or less, or is Frobenius's quotient, or another walk.
+-- The hook walk strikes the longest cycle and adds what each hook counts; the value of a smaller word stands in the
+-- row, at degree 4 or less, or is Frobenius's quotient, or another walk.
 use Rattle.std.proofs.Common.{◌≡◌, ◌≤◌, ◌<◌, true, false, sym, ◌∙◌, subst, arith, leb-true, leb-false}
 use Rattle.theory.specs.Basics.{List, get_or, ℕ, ℤ, pos, ◌≤?◌}
 use Rattle.theory.specs.Partition.{degree}
@@ -12,7 +12,8 @@ use Rattle.pages.proofs.Signed.{carried}
 use Rattle.characters.specs.Private.Evaluation.{Evaluable}
 use Rattle.characters.specs.Private.SmallTables.{table_limit, row_length, RowOf, cycles_left}
 use Rattle.characters.proofs.Identities.{degree-place, quotient-asked, quotient-answers}
-use Rattle.characters.proofs.Walks.{first-bits, hooks-start, hooks-next, hooks-end, hook-asked, row-kept, character-carried}
+use Rattle.characters.proofs.Walks.{first-bits, hooks-start, hooks-next, hooks-end}
+use Rattle.characters.proofs.Walks.{hook-asked, row-kept, character-carried}
 use Rattle.characters.proofs.SmallTables.{row-entry, row_within}
 use Rattle.characters.proofs.SmallWords.{left-small}
 use Rattle.characters.proofs.walking.+hook_walk_value.Goals as goal
@@ -37,7 +38,8 @@ hook_walk-value-number-requires t c =
     let b = c.requires.class_bound in
     let next = hooks-next b.0 b.1 c.requires.row_of.1 c.in-Some.ensures.steps c.loop-hook.invariant in
     let asked = hook-asked b.0 b.1 c.requires.row_of.1 next.good in
-    (omega (arith, asked.falls, c.decreases), ((asked.fits, asked.evaluable), row-kept b.0 b.1 c.requires.row_of.1 c.requires.row_of.0))
+    let row = row-kept b.0 b.1 c.requires.row_of.1 c.requires.row_of.0 in
+    (omega (arith, asked.falls, c.decreases), ((asked.fits, asked.evaluable), row))
 
 pub hook_walk-add_signed-sum-requires : goal.hook_walk-add_signed-sum-requires
 hook_walk-add_signed-sum-requires t c =
@@ -76,16 +78,19 @@ value-shape_rank-rank-requires t c =
 
 pub value-bounds-row-rank : goal.value-bounds-row-rank
 value-bounds-row-rank t c =
-    (small-row _ c.args.class _ _ c.requires.class_bound.1 c.requires.row_of c.if-small.ensures c.shape_rank-rank.ensures).within
+    (small-row _ c.args.class _ _ c.requires.class_bound.1 c.requires.row_of c.if-small.ensures
+    c.shape_rank-rank.ensures).within
 
 pub value-offset_bounds-row-rank : goal.value-offset_bounds-row-rank
 value-offset_bounds-row-rank t c =
-    let at = small-row _ c.args.class _ _ c.requires.class_bound.1 c.requires.row_of c.if-small.ensures c.shape_rank-rank.ensures in
+    let at = small-row _ c.args.class _ _ c.requires.class_bound.1 c.requires.row_of c.if-small.ensures
+    c.shape_rank-rank.ensures in
     record { fits = omega (arith, at.within) }
 
 pub value-returns-then-small : goal.value-returns-then-small
 value-returns-then-small t c =
-    (small-row _ c.args.class _ _ c.requires.class_bound.1 c.requires.row_of c.if-small.ensures c.shape_rank-rank.ensures).number
+    (small-row _ c.args.class _ _ c.requires.class_bound.1 c.requires.row_of c.if-small.ensures
+    c.shape_rank-rank.ensures).number
 
 more : (class : ℕ) → false ≡ degree (class_of class) ≤? table_limit → table_limit < degree (class_of class)
 more class small = leb-false (degree (class_of class)) table_limit (sym small)

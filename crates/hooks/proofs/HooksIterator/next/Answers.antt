@@ -13,7 +13,7 @@ returns-then-self-eq0-clause-steps c =
 pub overflow_sub-self : goal.overflow_sub-self
 overflow_sub-self c =
     let hooks = c.self.inside in
-    (marked-next hooks.length hooks.shape hooks.left (omega arith) c.self.invariant).takes
+    omega (arith, (marked-next hooks.length hooks.shape hooks.left (omega arith) c.self.invariant).takes)
 
 pub returns-clause-steps : goal.returns-clause-steps
 returns-clause-steps c =

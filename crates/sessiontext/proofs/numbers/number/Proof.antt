@@ -8,17 +8,17 @@ use borrow.Author.Rules.{rules}
 use Rattle.sessiontext.proofs.numbers.number.Statement.{statement}
 use Rattle.sessiontext.proofs.numbers.number.Tie as tie
 
-line : (c : tie.After-number-end) → let s = c in
-    Own (text_line s.args.name.now (decimal c.number_in-number.result)) c.number-end.result c.number-end.new.out
-line c = own c.number-end.ensures (number_short c.requires _) (omega arith)
+line : (c : tie.After-line-end) → let s = c in
+    Own (text_line s.args.name.now (decimal c.number_in-number.result)) c.line-end.result c.line-end.new.out
+line c = own c.line-end.ensures (number_short c.requires _) (omega arith)
 
 number-in-requires : tie.Need-number_in-number-requires
 number-in-requires c κs = search rules
 
-slice-aggregate-number : tie.Need-slice_bounds-number-end
+slice-aggregate-number : tie.Need-slice_bounds-line-end
 slice-aggregate-number c = search rules
 
-number-requires : tie.Need-number-end-requires
+number-requires : tie.Need-line-end-requires
 number-requires c κs = search rules
 
 array-share-prefix-own : tie.Need-slice_bounds-own-end

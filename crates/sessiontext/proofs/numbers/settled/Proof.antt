@@ -17,14 +17,14 @@ kept : (c : tie.After-struct_told-1) → let z = c.integer_in-read.result.number
     to_z w64 (of_z w64 z) ≡ z
 kept c = to_z-of_z {w = w64} (search rules)
 
-line : (c : tie.After-integer-end)
+line : (c : tie.After-line-end)
     → let z = c.integer_in-read.result.number in
-    Own (field "settled=" (integer z)) c.integer-end.result c.integer-end.new.out
+    Own (field "settled=" (integer z)) c.line-end.result c.line-end.new.out
 line c =
     let s = c in
     let short = settled-short _ s.integer_in-read.ensures (not-false _ c.if-not-read.false) in
     let z = kept c.before.before.before.before in
-    own (rw z at c.integer-end.ensures) short (omega arith)
+    own (rw z at c.line-end.ensures) short (omega arith)
 
 integer-in-requires : tie.Need-integer_in-read-requires
 integer-in-requires c κs = search rules
@@ -32,10 +32,10 @@ integer-in-requires c κs = search rules
 returns : tie.Need-returns-then-not-read
 returns c = settled-large _ c.integer_in-read.ensures (not-true _ c.if-not-read.true)
 
-slice-aggregate-integer : tie.Need-slice_bounds-integer-end-2
+slice-aggregate-integer : tie.Need-slice_bounds-line-end-2
 slice-aggregate-integer c = search rules
 
-integer-requires : tie.Need-integer-end-requires
+integer-requires : tie.Need-line-end-requires
 integer-requires c κs = search rules
 
 array-share-prefix-own : tie.Need-slice_bounds-own-end

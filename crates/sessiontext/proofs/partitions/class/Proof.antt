@@ -12,13 +12,13 @@ use borrow.Author.Rules.{rules}
 use Rattle.sessiontext.proofs.partitions.class.Statement.{statement}
 use Rattle.sessiontext.proofs.partitions.class.Tie as tie
 
-line : (c : tie.After-list-end) → let t = c.args.line.now in
-    Own (field "class=" (list_text (list_in t))) c.list-end.result c.list-end.new.out
+line : (c : tie.After-line-end) → let t = c.args.line.now in
+    Own (field "class=" (list_text (list_in t))) c.line-end.result c.line-end.new.out
 line c =
     let i = c in
     let f = not-false _ c.if-not-read.false in
     let front = i.class_in-read.ensures.front f in
-    own (rw front at c.list-end.ensures) (list-fits i.class_in-read.ensures (ascii "class=") f (omega arith)) (omega
+    own (rw front at c.line-end.ensures) (list-fits i.class_in-read.ensures (ascii "class=") f (omega arith)) (omega
     arith)
 
 slice-aggregate-class-in : tie.Need-slice_bounds-class_in-end
@@ -36,15 +36,15 @@ returns c = record {
 array-share-prefix-parts : tie.Need-slice_bounds-parts-end
 array-share-prefix-parts c = c.class_in-read.ensures.inside (not-false _ c.if-not-read.false)
 
-slice-aggregate-list-2 : tie.Need-slice_bounds-list-end-2
+slice-aggregate-list-2 : tie.Need-slice_bounds-line-end-2
 slice-aggregate-list-2 c =
     let f = not-false _ c.if-not-read.false in
     sym (length-take-le _ _ (c.class_in-read.ensures.inside f))
 
-slice-aggregate-list-3 : tie.Need-slice_bounds-list-end-3
+slice-aggregate-list-3 : tie.Need-slice_bounds-line-end-3
 slice-aggregate-list-3 c = search rules
 
-list-requires : tie.Need-list-end-requires
+list-requires : tie.Need-line-end-requires
 list-requires c κs = search rules
 
 array-share-prefix-own : tie.Need-slice_bounds-own-end

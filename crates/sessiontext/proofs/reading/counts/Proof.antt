@@ -11,16 +11,16 @@ use borrow.Author.Rules.{rules}
 use Rattle.sessiontext.proofs.reading.counts.Statement.{statement}
 use Rattle.sessiontext.proofs.reading.counts.Tie as tie
 
-line : (c : tie.After-number-end)
-    → Own (field "lines=" (decimal c.args.count)) c.number-end.result c.number-end.new.out
+line : (c : tie.After-line-end)
+    → Own (field "lines=" (decimal c.args.count)) c.line-end.result c.line-end.new.out
 line c =
     let n = c.args.count in
-    own c.number-end.ensures (omega (arith, number-length (ascii "lines=") n)) (omega arith)
+    own c.line-end.ensures (omega (arith, number-length (ascii "lines=") n)) (omega arith)
 
-slice-aggregate-number : tie.Need-slice_bounds-number-end-2
+slice-aggregate-number : tie.Need-slice_bounds-line-end-2
 slice-aggregate-number c = search rules
 
-number-requires : tie.Need-number-end-requires
+number-requires : tie.Need-line-end-requires
 number-requires c κs = search rules
 
 array-share-prefix-own : tie.Need-slice_bounds-own-end

@@ -21,7 +21,7 @@ clear c = omega (arith, c.requires.shape.good.below)
 put-requires : tie.Need-put-end-requires
 put-requires c κs = search rules
 
-integer-requires : tie.Need-integer-end-requires
+integer-requires : tie.Need-write-end-requires
 integer-requires c κs = search rules
 
 words-behind-requires : tie.Need-words_behind-requires
@@ -47,7 +47,7 @@ returns c =
     let s = name in
     let m = room name.before.before.before.before.before.before.before.before.before.before in
     rw (weighted-parts _ _ _)
-    (wrote_then (wrote_then name.put-end.ensures m (rw (handed s.before.before.before.before.before.before.before.before.before.before.before.before.before.before.before) at weight.integer-end.ensures)) m
+    (wrote_then (wrote_then name.put-end.ensures m (rw (handed s.before.before.before.before.before.before.before.before.before.before.before.before.before.before.before) at weight.write-end.ensures)) m
     (rw (clear s.before.before.before.before.before.before.before.before.before.before.before.before.before.before.before) at rest.words_behind.ensures))
 
 pub line_spec : {M : Type 1} → statement M

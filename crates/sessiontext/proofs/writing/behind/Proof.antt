@@ -11,13 +11,13 @@ use Rattle.sessiontext.proofs.writing.behind.Tie as tie
 byte-requires : tie.Need-byte-end-requires
 byte-requires c κs = search rules
 
-list-requires : tie.Need-list-end-requires
+list-requires : tie.Need-write-end-requires
 list-requires c κs = search rules
 
 byte-requires-2 : tie.Need-byte-end-requires-2
 byte-requires-2 c κs = search rules
 
-list-requires-2 : tie.Need-list-end-requires-2
+list-requires-2 : tie.Need-write-end-requires-2
 list-requires-2 c κs = search rules
 
 byte-requires-3 : tie.Need-byte-requires
@@ -38,8 +38,8 @@ returns c =
     let first = shape in
     let m = room first.before.before.before.before.before.before.before.before.before.before.before.before.before.before.before.before.before.before in
     wrote_then
-    (wrote_then (wrote_then (wrote_then first.byte-end.ensures m shape.list-end.ensures) m second.byte-end-2.ensures) m
-    class.list-end-2.ensures) m newline.byte.ensures
+    (wrote_then (wrote_then (wrote_then first.byte-end.ensures m shape.write-end.ensures) m second.byte-end-2.ensures) m
+    class.write-end-2.ensures) m newline.byte.ensures
 
 pub behind_spec : {M : Type 1} → statement M
 behind_spec =

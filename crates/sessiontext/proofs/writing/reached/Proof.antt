@@ -28,13 +28,13 @@ cast-number c =
     let start = c in
     rw (steps start.before.before.before.before.before) (tt, record { fits = omega (arith, start.requires.0.small) })
 
-number-requires : tie.Need-number-end-requires
+number-requires : tie.Need-line-end-requires
 number-requires c κs = search rules
 
-integer-requires : tie.Need-integer-end-requires
+integer-requires : tie.Need-line-end-requires-2
 integer-requires c κs = search rules
 
-number-requires-2 : tie.Need-number-requires
+number-requires-2 : tie.Need-line-requires
 number-requires-2 c κs = search rules
 
 same_length : tie.Need-shape_of-out
@@ -46,7 +46,7 @@ returns c =
     let z = k in
     let n = z in
     let start = n in
-    wrote_then (wrote_then (rw (steps start.before.before.before.before.before.before.before.before.before.before.before.before.before.before.before.before.before.before.before.before.before.before) at n.number-end.ensures) (omega arith) (rw (settled start.before.before.before.before.before.before.before.before.before.before.before.before.before.before.before.before.before.before.before.before.before.before) at z.integer-end.ensures)) (omega arith) k.number.ensures
+    wrote_then (wrote_then (rw (steps start.before.before.before.before.before.before.before.before.before.before.before.before.before.before.before.before.before.before.before.before.before.before) at n.line-end.ensures) (omega arith) (rw (settled start.before.before.before.before.before.before.before.before.before.before.before.before.before.before.before.before.before.before.before.before.before.before) at z.line-end-2.ensures)) (omega arith) k.line.ensures
 
 pub reached_spec : {M : Type 1} → statement M
 reached_spec =

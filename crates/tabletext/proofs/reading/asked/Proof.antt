@@ -13,7 +13,7 @@ use Rattle.tabletext.specs.Private.Reading.Laws.{read_asked, read-nothing}
 use Rattle.tabletext.proofs.reading.asked.Statement.{statement}
 use Rattle.tabletext.proofs.reading.asked.Tie as tie
 
-abbrev number : tie.After-number-end → tie.Else-n-gt99
+abbrev number : tie.After-line-end → tie.Else-n-gt99
 number c = c.before.before.before.before
 
 abbrev begin : tie.Else-n-gt99 → tie.Start
@@ -22,14 +22,14 @@ begin c = c.before.before.before
 short : (c : tie.Else-n-gt99) → length (asking c.number_in-n.result) ≤ 10
 short c = asking-short _ (omega (arith, c.if-n-gt99.false))
 
-line : (c : tie.After-number-end)
-    → take c.number-end.result c.number-end.new.out ≡ asking (number c).number_in-n.result
-line c = wrote-take c.number-end.ensures (omega arith) (short (number c))
+line : (c : tie.After-line-end)
+    → take c.line-end.result c.line-end.new.out ≡ asking (number c).number_in-n.result
+line c = wrote-take c.line-end.ensures (omega arith) (short (number c))
 
-within : (c : tie.After-number-end) → c.number-end.result ≤ length c.number-end.new.out
+within : (c : tie.After-line-end) → c.line-end.result ≤ length c.line-end.new.out
 within c =
     let n = number c in
-    omega (arith, wrote-end c.number-end.ensures (omega arith) (short n), wrote-length c.number-end.ensures, short n)
+    omega (arith, wrote-end c.line-end.ensures (omega arith) (short n), wrote-length c.line-end.ensures, short n)
 
 number-in-requires : tie.Need-number_in-n-requires
 number-in-requires c κs = search rules
@@ -42,13 +42,13 @@ returns c =
 cast-degree : tie.Need-overflow_cast-degree
 cast-degree c = search rules
 
-slice-aggregate-number : tie.Need-slice_bounds-number-end-2
+slice-aggregate-number : tie.Need-slice_bounds-line-end-2
 slice-aggregate-number c = search rules
 
-number-requires : tie.Need-number-end-requires
+number-requires : tie.Need-line-end-requires
 number-requires c κs = search rules
 
-array-share-prefix-line : tie.Need-slice_bounds-line-end
+array-share-prefix-line : tie.Need-slice_bounds-line-end-3
 array-share-prefix-line c = within c.before
 
 slice-aggregate-same : tie.Need-slice_bounds-same-end

@@ -20,22 +20,22 @@ numbered name e w = rw e at w
 abbrev begin : tie.After-count-count → tie.Start
 begin c = c.before.before
 
-abbrev counted : tie.After-number-end-2 → tie.After-count-count
+abbrev counted : tie.After-line-end-2 → tie.After-count-count
 counted c = c.before.before.before.before.before.before.before.before.before.before
 
-abbrev in-front : tie.After-classes-end → tie.After-number-end-2
+abbrev in-front : tie.After-classes-end → tie.After-line-end-2
 in-front c = c.before.before.before.before
 
 count-requires : tie.Need-count-count-requires
 count-requires c κs = search rules
 
-number-requires : tie.Need-number-end-requires
+number-requires : tie.Need-line-end-requires
 number-requires c κs = search rules
 
 cast-number : tie.Need-overflow_cast-count
 cast-number c = search rules
 
-number-requires-2 : tie.Need-number-end-requires-2
+number-requires-2 : tie.Need-line-end-requires-2
 number-requires-2 c κs = search rules
 
 classes-requires : tie.Need-classes-end-requires
@@ -46,7 +46,7 @@ classes-requires c κs =
 cast-number-2 : tie.Need-overflow_cast-count-2
 cast-number-2 c = search rules
 
-number-requires-3 : tie.Need-number-requires
+number-requires-3 : tie.Need-line-requires
 number-requires-3 c κs = search rules
 
 same_length : tie.Need-shape_of-out
@@ -62,10 +62,10 @@ returns c =
     let l = e in
     let n = in-front l.before.before.before.before.before.before.before.before in
     let k = counted n in
-    let count = numbered (ascii "count=") k.count-count.ensures n.number-end-2.ensures in
-    let two = wrote_then n.number-end.ensures (room k) count in
+    let count = numbered (ascii "count=") k.count-count.ensures n.line-end-2.ensures in
+    let two = wrote_then n.line-end.ensures (room k) count in
     let three = wrote_then two (room k) l.classes-end.ensures in
-    wrote_then three (room k) (numbered (ascii "end=") k.count-count.ensures e.number.ensures)
+    wrote_then three (room k) (numbered (ascii "end=") k.count-count.ensures e.line.ensures)
 
 pub table_spec : {M : Type 1} → statement M
 table_spec =

@@ -1,6 +1,6 @@
 -- `zembrusha::plain::zembrusha_commit` meets its contract: it hands on what the call answers.
 use borrow.Author.Rules.{rules}
-use Rattle.sessions.specs.declared.Handed.{Handed}
+use Rattle.sessions.specs.Opening.{Handed}
 use Rattle.zembrusha.specs.Exports.{handed_over}
 use Rattle.zembrusha.proofs.HandedOn.{outcome-of}
 use Rattle.zembrusha.proofs.plain.zembrusha_commit.Statement.{statement}

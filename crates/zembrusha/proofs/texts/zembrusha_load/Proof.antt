@@ -1,6 +1,6 @@
 -- `zembrusha::texts::zembrusha_load` meets its contract: it hands on what the call answers.
 use borrow.Author.Rules.{rules}
-use Rattle.sessiontext.specs.declared.Loaded.{Loaded}
+use Rattle.sessiontext.specs.Calls.{Loaded}
 use Rattle.zembrusha.specs.Exports.{loaded_over}
 use Rattle.zembrusha.proofs.HandedOn.{outcome-of}
 use Rattle.zembrusha.proofs.texts.zembrusha_load.Statement.{statement}

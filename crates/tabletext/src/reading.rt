@@ -2,7 +2,8 @@
 ghost use Rattle.std.specs.Prelude.{◌≡◌, slice_get};
 ghost use Rattle.tabletext.specs.Table.{asked as askedNumbers};
 
-// The number of one or two digits whose line the input is, if it is one's: the number that its digits give is written out and compared with it.
+// The number of one or two digits whose line the input is, if it is one's: the number that its digits give is written
+// out and compared with it.
 pub fn asked(input: &[u8]) -> Option<u32>
     ensures { result ≡ slice_get (askedNumbers input.now) 0 }
 {

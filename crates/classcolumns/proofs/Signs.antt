@@ -30,8 +30,7 @@ module _ (minus : Bool) (z : ℤ) (small : nat_abs z < 2 ^ 63) where
 pub record Counted (so_far value : ℤ) (minus : Bool) (number sign : ℤ) : Type 0 where
   pub fits : SFits w64 (carried number *ℤ carried sign)
   pub sum-fits : SFits w64 (so_far +ℤ carried (carried number *ℤ carried sign))
-  pub adds : carried (so_far +ℤ carried (carried number *ℤ carried sign))
-      ≡ carried (so_far +ℤ signed minus (carried value))
+  pub adds : carried (so_far +ℤ carried (carried number *ℤ carried sign)) ≡ carried (so_far +ℤ signed minus (carried value))
 
 pub counted : (so_far value : ℤ) (minus : Bool) {number sign : ℤ} → number ≡ value → sign ≡ signed minus (pos 1)
     → nat_abs so_far + nat_abs (carried value) < 2 ^ 63 → Counted so_far value minus number sign

@@ -4,8 +4,7 @@ use Rattle.theory.specs.Basics.{List, ℕ, ℤ}
 use Rattle.theory.specs.ClassWord.{class_of}
 use Rattle.theory.specs.Column.{column}
 use Rattle.theory.specs.Refusals.{class_checks, no-14}
-use Rattle.words.specs.Answers.{written}
-use Rattle.words.specs.declared.CountAnswer.{CountAnswer}
+use Rattle.words.specs.Answers.{written, CountAnswer}
 
 module _ (limit : ℕ) where
   unfoldable pub column_into : ℕ → List ℤ → CountAnswer × List ℤ

@@ -43,8 +43,7 @@ impl Places<'_> {
     // From the table of the cycles after the i-th, that of the cycles from the i-th on, which have this degree.
     fn lift(self, table: &mut [i64; PLACE_COUNT], cycles: &[u8], i: usize, degree: u32)
         requires i_in_bounds { (i < length cycles.now) × (degree ≡ degree_of (drop i cycles.now)) }
-        requires cycles { Cycles degree_limit (drop i cycles.now)
-            × Kept shape_places table.old (drop (i + 1) cycles.now) }
+        requires cycles { Cycles degree_limit (drop i cycles.now) × Kept shape_places table.old (drop (i + 1) cycles.now) }
         ensures { Kept shape_places table.new (drop i cycles.now) }
     {
         let cycle = cycles[i] as u32;

@@ -26,7 +26,7 @@ impl<'a> Places<'a> {
         requires { degree ≤ degree_limit }
         ensures { result.now ≡ map shape_word (listing degree) }
     {
-        let section = listing::section(degree);
+        let section = listing::section(degree).unwrap();
         &self.words[section.start..section.start + section.count]
     }
 

@@ -1,7 +1,7 @@
 -- A list of words moves to another form (document 02, P5: "Lists lie in lent runs of 32-bit words, one read and one
 -- written"; "A bad entry refuses the list, with the index of the first, nothing written"; "20 unequal lengths or more
 -- than 4,096, before the entries").
---   list_told r                     what is told of a call that gives r: 0 and 0, or the number of the refusal and the index
+--   list_told r                     what is told of a call that gives r: 0 and 0, or the refusal's number and the index
 --   first_bad checks i ws           the number that refuses the first word of ws that its checks refuse, and its index,
 --                                  where the first word of all has the index i; 0 and 0 if they refuse none
 --   judged checks given lent       20, or what refuses the first bad word of the given list

@@ -1,4 +1,4 @@
-// A list moves to the other form, for both calls. `old` says that a word is of the old form.
+// A list moves to the other form, for both calls.
 ghost use Rattle.std.specs.Prelude.{◌≡◌};
 ghost use Rattle.theory.specs.Basics.{length, map, Each};
 ghost use Rattle.theory.specs.OldForm.{new_word, old_word};
@@ -14,6 +14,13 @@ ghost use Rattle.oldlists.specs.Private.Forms.{form_checks, other_form};
 use super::{LIST_LIMIT, Rejected};
 use words::parts::Parts;
 use words::{Refusal, SHAPE_WORDS, classes, shapes};
+
+// The form of a word that is given.
+#[derive(Clone, Copy)]
+pub enum Form {
+    Old,
+    New,
+}
 
 // The new word of an old one. `bits` begins as 31 ones and one more; each row takes its zero out of them, behind the
 // zero of the row before and the ones by which that row is longer. At the end the ones behind the last row go, with the
@@ -57,56 +64,64 @@ fn old_word(word: u32) -> u32
     bits
 }
 
-// Why a word is refused, as the call for its degree gives it. A list keeps good words: a new word of 2^30 or more is
-// refused 1.
-fn refusal(word: u32, old: bool) -> Result<(), Refusal>
-    ensures { refusal_of result ≡ first_of (form_checks degree_limit old word) }
-{
-    if old {
-        classes::degree(word)?;
-        return Ok(());
+impl Form {
+    // Why a word is refused, as the call for its degree gives it. A list keeps good words: a new word of 2^30 or more is
+    // refused 1.
+    fn refusal(self, word: u32) -> Result<(), Refusal>
+        ensures { refusal_of result ≡ first_of (form_checks degree_limit self word) }
+    {
+        match self {
+            Form::Old => {
+                classes::degree(word)?;
+            }
+            Form::New => {
+                if SHAPE_WORDS <= word {
+                    return Err(Refusal::BadShape);
+                }
+                shapes::degree(word)?;
+            }
+        }
+        Ok(())
     }
-    if SHAPE_WORDS <= word {
-        return Err(Refusal::BadShape);
+
+    // A word that is not refused, in the other form.
+    fn other(self, word: u32) -> u32
+        requires { Passes (form_checks degree_limit self) word }
+        ensures { result ≡ other_form self word }
+    {
+        match self {
+            Form::Old => new_word(word),
+            Form::New => old_word(word),
+        }
     }
-    shapes::degree(word)?;
-    Ok(())
 }
 
 // Why the first bad word is refused, and its index.
-fn first_bad(words: &[u32], old: bool) -> Result<(), Rejected>
-    ensures { list_told result ≡ first_bad (form_checks degree_limit old) 0 words.now }
+fn first_bad(words: &[u32], form: Form) -> Result<(), Rejected>
+    ensures { list_told result ≡ first_bad (form_checks degree_limit form) 0 words.now }
 {
     for (i, word) in words.iter().enumerate() {
-        if let Err(refusal) = refusal(*word, old) {
+        if let Err(refusal) = form.refusal(*word) {
             return Err(Rejected { refusal, index: i });
         }
     }
     Ok(())
 }
 
-// A word that is not refused, in the other form.
-fn other_form(word: u32, old: bool) -> u32
-    requires { Passes (form_checks degree_limit old) word }
-    ensures { result ≡ other_form old word }
-{
-    if old { new_word(word) } else { old_word(word) }
-}
-
 // Each word in the other form, where none is refused, to its place in the lent list.
-fn write(given: &[u32], lent: &mut [u32], old: bool)
-    requires { (length given.now ≡ length lent.old) × Each (Passes (form_checks degree_limit old)) given.now }
-    ensures { lent.new ≡ map (other_form old) given.now }
+fn write(given: &[u32], lent: &mut [u32], form: Form)
+    requires { (length given.now ≡ length lent.old) × Each (Passes (form_checks degree_limit form)) given.now }
+    ensures { lent.new ≡ map (other_form form) given.now }
 {
     for (i, word) in given.iter().enumerate() {
-        lent[i] = other_form(*word, old);
+        lent[i] = form.other(*word);
     }
 }
 
 // A list in the other form. Refuses 20, then as the first bad word is refused; all are judged before one is written.
-pub fn moved(given: &[u32], lent: &mut [u32], old: bool) -> Result<(), Rejected>
+pub fn moved(given: &[u32], lent: &mut [u32], form: Form) -> Result<(), Rejected>
     ensures { Outcome
-        (movedList (form_checks degree_limit old) (other_form old) given.now lent.old) (list_told result)
+        (movedList (form_checks degree_limit form) (other_form form) given.now lent.old) (list_told result)
         lent.new }
 {
     if given.len() != lent.len() || LIST_LIMIT < given.len() {
@@ -115,7 +130,7 @@ pub fn moved(given: &[u32], lent: &mut [u32], old: bool) -> Result<(), Rejected>
             index: 0,
         });
     }
-    first_bad(given, old)?;
-    write(given, lent, old);
+    first_bad(given, form)?;
+    write(given, lent, form);
     Ok(())
 }

@@ -8,6 +8,7 @@ ghost use Rattle.words.specs.Answers.{Outcome};
 ghost use Rattle.oldlists.specs.Lists.{list_told};
 ghost use Rattle.oldlists.specs.Calls.{shapes_from_old, shapes_to_old};
 
+use forms::Form;
 use words::Refusal;
 
 mod forms;
@@ -27,12 +28,12 @@ pub const LIST_LIMIT: usize = 4096;
 pub fn from_old(old: &[u32], new: &mut [u32]) -> Result<(), Rejected>
     ensures { Outcome (shapes_from_old degree_limit old.now new.old) (list_told result) new.new }
 {
-    forms::moved(old, new, true)
+    forms::moved(old, new, Form::Old)
 }
 
 // And back. Refuses 20, then with the index of the first bad entry 1, where it is 2^30 or more, or 2.
 pub fn to_old(new: &[u32], old: &mut [u32]) -> Result<(), Rejected>
     ensures { Outcome (shapes_to_old degree_limit new.now old.old) (list_told result) old.new }
 {
-    forms::moved(new, old, false)
+    forms::moved(new, old, Form::New)
 }

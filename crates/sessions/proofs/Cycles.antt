@@ -4,6 +4,7 @@
 --   PartRead w cycle left rest p b qs   what is known where the part p stands before the parts qs, and b is its one
 use Rattle.std.specs.Prelude.{◌≡◌, ◌<◌, ◌≤◌, ◌∷◌, ◌+◌, ◌-◌, ◌*◌, ◌%◌, ◌^◌, None, Some}
 use Rattle.std.proofs.Common.{refl, sym, ap, ◌∙◌, arith, eq-eqb, ne_eqb, mod-eq_of_lt, pow_mono, shl_lt}
+use Rattle.std.proofs.Math.Pow.{low, mod-mod-pow}
 use Rattle.theory.specs.Basics.{[], ℕ}
 use Rattle.theory.specs.Partition.{Parts, degree, times, without}
 use Rattle.theory.specs.Partition.Laws.{NoZero, some}
@@ -111,3 +112,14 @@ pub strike-hit : {w cycle left rest p b : ℕ} {qs : Parts} → PartRead w cycle
     → Some (w - rest + (rest - b) * 2 ^ p % 2 ^ 32) ≡ class_without cycle w
 unfolding class_without
 strike-hit {w} {cycle} r h = rw (← r.hit h, ne_eqb (times cycle (class_of w)) 0 (r.found h)) refl
+
+-- where `rest` are the lowest digits of w, those behind the part are its lowest too
+pub lowest : {w cycle left p b : ℕ} {qs : Parts} → PartRead w cycle left (w % 2 ^ left) p b qs → b ≡ 2 ^ (left - p)
+    → w % 2 ^ left - b ≡ w % 2 ^ (left - p)
+lowest {w} {cycle} {left} {p} {b} {qs} r e =
+    let m : ℕ = left - p in
+    let x : ℕ = word m (class_digits qs) in
+    let whole : p + m ≡ left = omega (arith, r.fits) in
+    let above : w % 2 ^ left ≡ 1 * 2 ^ m + x = omega (arith, r.takes, r.behind) in
+    let back = rw whole at (mod-mod-pow w p m) in
+    r.behind ∙ sym (low 1 m {lo = x} (word_below m (class_digits qs))) ∙ ap (λ (y : ℕ). y % 2 ^ m) (sym above) ∙ back

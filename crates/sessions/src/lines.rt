@@ -20,15 +20,14 @@ pub fn strike(class: u32, cycle: u64) -> Option<u32>
     requires { class < 2 ^ 31 }
     ensures { result ≡ class_without cycle class }
 {
-    let mut rest = class;
     let mut left = 31u32;
     for part in Parts::of(class) {
-        left -= part;
-        let behind = rest - (1u32 << left);
+        let behind = left - part;
         if part as u64 == cycle {
-            return Some(class - rest + (behind << part));
+            let moved = (class % (1u32 << behind)) << part;
+            return Some(class - class % (1u32 << left) + moved);
         }
-        rest = behind;
+        left = behind;
     }
     None
 }

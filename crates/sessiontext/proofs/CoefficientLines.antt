@@ -1,16 +1,15 @@
 -- Waiting lines with coefficients that are read off a text: one line, told by comparing, and loops over them.
 --   Faultless ..   the lines in front of `at` are of their form
 --   Down ..        the lines in front of `at` are put down
-use Rattle.std.specs.Prelude.{◌&&◌, ◌∷◌, ◌+◌, ◌-◌, ◌*◌, ◌/◌, ◌%◌, ◌^◌}
+use Rattle.std.specs.Prelude.{Option, None, Some, is_some, not, ◌≢◌, ◌&&◌, ◌∷◌, ◌+◌, ◌-◌, ◌*◌, ◌/◌, ◌%◌, ◌^◌}
 use mathlib.Core.Path.{◌≡◌, refl, sym, ◌∙◌, ap, ap₂, subst}
 use mathlib.Core.Bool.{false≢true}
 use Prim.Native.Nat.{◌≤◌, ◌<◌}
-use native.Mathlib.Nat.{add-zero, add_comm}
 use native.Mathlib.Numerals.{add-one}
 use native.Mathlib.Omega.{arith}
-use lib.ListN.{set, length-set, drop_of_length-le}
+use lib.ListN.{set, length-set}
 use lib.Seq.{sets}
-use Rattle.theory.specs.Basics.{Bool, true, false, List, ℕ, ℤ, length}
+use Rattle.theory.specs.Basics.{Bool, true, false, List, ℕ, suc, ℤ, length}
 use Rattle.theory.specs.Basics.{take, drop, Each}
 use Rattle.theory.proofs.Basics.Keep.{same_test}
 use Rattle.theory.proofs.Basics.Laws.{both}
@@ -22,25 +21,29 @@ use Rattle.theory.specs.Refusals.{first_of}
 use Rattle.text.specs.Text.{Text}
 use Rattle.textreading.specs.Reading.{before, lines_of, first_line}
 use Rattle.textreading.specs.Reading.Bytes.{before-take, before-fits}
-use Rattle.textreading.proofs.Reading.Lines.{Next, next}
 use Rattle.pages.specs.Line.{Line}
 use Rattle.pages.specs.Page.{word_of, plain}
 use Rattle.pages.specs.Mode.{weighted, unit, words_of, weights_of}
-use Rattle.sessiontext.specs.declared.numbers.IntegerRead.{IntegerRead}
-use Rattle.sessiontext.specs.declared.waiting.LineRead.{LineRead}
-use Rattle.sessiontext.specs.declared.coefficients.WeightedRead.{WeightedRead}
 use Rattle.sessiontext.specs.SessionText.{held, gathered_form, line_text_by}
 use Rattle.sessiontext.specs.SessionText.Faithful.Gathered.{gathered-faithful}
 use Rattle.sessiontext.specs.SessionText.Storable.{StorableLineBy}
 use Rattle.sessiontext.specs.SessionText.Room.{weighted_room, line-short}
-use Rattle.sessiontext.specs.Reading.{in_limit, minus_in, shape_in, class_in, weight_by, is_waiting_by, line_in}
+use Rattle.sessiontext.specs.Reading.{minus_in, shape_in, class_in, weight_by, is_waiting_by, line_in}
 use Rattle.sessiontext.specs.Reading.{line_by, line_faults_by}
 use Rattle.sessiontext.specs.Reading.Forms.{WaitingBy, InLimit, limit-in, is-waiting}
 use Rattle.sessiontext.specs.Reading.Exact.{shape-within, class-within, told-storable}
-use Rattle.sessiontext.specs.Private.Read.{ReadInteger, ReadLine}
 use Rattle.sessiontext.specs.Private.Weighted.{ToldWeighted, ReadWeighted, read_as, PutDown}
-use Rattle.sessiontext.proofs.NumberLines.{Compared}
-use Rattle.sessiontext.proofs.WaitingLines.{both-limits, its-limits, compared}
+use Rattle.sessiontext.specs.declared.coefficients.Weighted.{Weighted}
+use Rattle.std.specs.Bool.{then_some}
+use mir.Facts.{to_z-of_z}
+use mir.Syntax.{w64}
+use mir.Val.{to_z, of_z}
+use Rattle.text.specs.Wrote.{Wrote}
+use Rattle.sessiontext.proofs.Words.{held_fits}
+use Rattle.sessiontext.proofs.Own.{Own, own}
+use Rattle.sessiontext.proofs.AllLines.{line-ends, behind-line, no-lines}
+use Rattle.sessiontext.proofs.Told.{Compared}
+use Rattle.sessiontext.proofs.WaitingLines.{limits, both-limits, compared}
 
 small : degree_limit < width
 small = omega arith
@@ -82,166 +85,181 @@ line-back t j =
     rw (shape, class)
 
 -- what stands in the line, whatever its form
-module _ {t : Text} {r : LineRead} {w : IntegerRead} (read : ReadLine t r)
-    (weight : ReadInteger (before 59 t) w) where
-  pub line-told : {formed : Bool} → formed ≡ (w.formed && r.formed)
-      → ToldWeighted t (record { formed = formed; word = r.word % 2 ^ 63; coefficient = w.number })
-  line-told {formed} f =
-      let parts : formed ≡ true → (w.formed ≡ true) × (r.formed ≡ true) = λ e. both _ _ (sym f ∙ e) in
-      record {
-        formed = f ∙ rw (weight.formed, read.formed) refl;
-        word = λ e. let l = its-limits read (parts e).1 in
-            rw (read.word (parts e).1) (word-unsigned t l.0 l.1);
-        coefficient = λ e. weight.number (parts e).0;
-      }
+module _ (t : Text) where
+  abbrev weight : ℤ
+  weight = weight_by gathered_form t
+
+  pub no-limits : limits t ≡ false → (held weight && limits t) ≡ false
+  no-limits e = never (held weight)
+    where
+      never : (b : Bool) → (b && limits t) ≡ false
+      never true = e
+      never false = refl
+
+  pub no-weight : held weight ≡ false → (held weight && limits t) ≡ false
+  no-weight e = rw e refl
+
+  pub weight-handed : {z : ℤ} → held weight ≡ true → z ≡ weight → to_z w64 (of_z w64 z) ≡ z
+  weight-handed {z} f e = to_z-of_z {w = w64} (held_fits z (rw e f))
+
+  pub line-told : {word : ℕ} {z : ℤ} → held weight ≡ true → z ≡ weight → limits t ≡ true → word ≡ word_of (line_in t)
+      → ToldWeighted t (Some (record { word = word % 2 ^ 63; coefficient = z }))
+  line-told h e f w = let l = both-limits t f in (rw (h, f) refl, rw w (word-unsigned t l.0 l.1), e)
 
 -- whether it is of its form
-module _ {t : Text} {r : WeightedRead} (told : ToldWeighted t r) where
-  pub line-formed : WaitingBy gathered_form degree_limit t → r.formed ≡ true
-  line-formed l = told.formed ∙ rw (l.fits, limit-in l.shape, limit-in l.class) refl
+module _ (t : Text) where
+  pub line-formed : WaitingBy gathered_form degree_limit t → (held (weight t) && limits t) ≡ true
+  line-formed l = rw (l.fits, limit-in l.shape, limit-in l.class) refl
 
-  pub line-unread : r.formed ≡ false → ReadWeighted t r
-  line-unread e = record {
-    formed = same_test r.formed (is_waiting_by gathered_form degree_limit t) (λ b. absurd (false≢true (sym e ∙ b)))
-        (λ b. line-formed (is-waiting gathered_form degree_limit t b));
-    word = told.word;
-    coefficient = told.coefficient;
-  }
+  pub line-unread : (held (weight t) && limits t) ≡ false → is_waiting_by gathered_form degree_limit t ≡ false
+  line-unread e =
+      same_test (is_waiting_by gathered_form degree_limit t) false
+      (λ b. absurd (false≢true (sym e ∙ line-formed (is-waiting gathered_form degree_limit t b))))
+      (λ b. absurd (false≢true b))
 
-  module _ (f : r.formed ≡ true) where
-    abbrev parts : (held (weight_by gathered_form t) ≡ true)
-        × ((in_limit degree_limit (shape_in t) && in_limit degree_limit (class_in t)) ≡ true)
-    parts = both (held (weight_by gathered_form t)) _ (sym told.formed ∙ f)
+  module _ (f : (held (weight t) && limits t) ≡ true) where
+    abbrev parts : (held (weight t) ≡ true) × (limits t ≡ true)
+    parts = both (held (weight t)) (limits t) f
 
-    abbrev limits : InLimit degree_limit (shape_in t) × InLimit degree_limit (class_in t)
-    limits = both-limits t parts.1
+    abbrev both-in : InLimit degree_limit (shape_in t) × InLimit degree_limit (class_in t)
+    both-in = both-limits t parts.1
 
-    its-made : weighted r.word r.coefficient ≡ line_by gathered_form t
-    its-made = ap₂ weighted (told.word f) (told.coefficient f) ∙ line-back t limits.1
+    pub weight-kept : {z : ℤ} → z ≡ weight t → to_z w64 (of_z w64 z) ≡ z
+    weight-kept {z} e = to_z-of_z {w = w64} (held_fits z (rw e parts.0))
 
-    pub its-text : line_text_by gathered_form (weighted r.word r.coefficient)
-        ≡ line_text_by gathered_form (line_by gathered_form t)
-    its-text = ap (λ (l : Line). line_text_by gathered_form l) its-made
+    pub weighted-told : {b : Bool} → Compared b t (line_text_by gathered_form (line_by gathered_form t))
+        → b ≡ is_waiting_by gathered_form degree_limit t
+    weighted-told c = compared gathered-faithful t parts.0 both-in.0 both-in.1 c
 
-    pub its-storable : StorableLineBy gathered-faithful degree_limit (weighted r.word r.coefficient)
-    its-storable =
-        subst (λ (l : Line). StorableLineBy gathered-faithful degree_limit l) (sym its-made)
-        (told-storable degree_limit small gathered-faithful t parts.0 limits.0 limits.1)
+    pub weighted-read : {w : Weighted} → w.word ≡ word_of (unit (line_by gathered_form t)) → w.coefficient ≡ weight t
+        → {b : Bool} {r : Option Weighted} → r ≡ then_some b w → b ≡ is_waiting_by gathered_form degree_limit t
+        → ReadWeighted t r
+    weighted-read {w} p q {b} e c = rw e (go b c)
+      where
+        go : (b : Bool) → b ≡ is_waiting_by gathered_form degree_limit t → ReadWeighted t (then_some b w)
+        go true c = (sym c, p, q)
+        go false c = sym c
 
-    pub line-fits : length (line_text_by gathered_form (weighted r.word r.coefficient)) ≤ weighted_room
-    unfolding gathered-faithful
-    line-fits = line-short gathered-faithful (weighted r.word r.coefficient) its-storable
+    module _ {word : ℕ} {z : ℤ} (w : word ≡ word_of (unit (line_by gathered_form t))) (e : z ≡ weight t) where
+      its-made : weighted word z ≡ line_by gathered_form t
+      its-made = ap₂ weighted w e ∙ line-back t both-in.1
 
-    pub line_read : {b : Bool} → Compared b t (line_text_by gathered_form (line_by gathered_form t))
-        → ReadWeighted t (record { formed = b; word = r.word; coefficient = r.coefficient })
-    line_read c = record {
-      formed = compared gathered-faithful t parts.0 limits.0 limits.1 c;
-      word = λ e. told.word f;
-      coefficient = λ e. told.coefficient f;
-    }
+      its-storable : StorableLineBy gathered-faithful degree_limit (weighted word z)
+      its-storable =
+          subst (λ (l : Line). StorableLineBy gathered-faithful degree_limit l) (sym its-made)
+          (told-storable degree_limit small gathered-faithful t parts.0 both-in.0 both-in.1)
+
+      pub handed-storable : StorableLineBy gathered-faithful degree_limit (weighted word (to_z w64 (of_z w64 z)))
+      handed-storable = rw (weight-kept e) its-storable
+
+      pub weighted-own : {before bytes : Text} {end : ℕ}
+          → Wrote (line_text_by gathered_form (weighted word (to_z w64 (of_z w64 z)))) 0 before end bytes
+          → length before ≡ weighted_room → Own (line_text_by gathered_form (line_by gathered_form t)) end bytes
+      unfolding gathered-faithful
+      weighted-own {before} {bytes} {end} v room =
+          let fits = line-short gathered-faithful (weighted word z) its-storable in
+          let Text-of : Line → Type 0 = λ l. Own (line_text_by gathered_form l) end bytes in
+          let same : weighted word (to_z w64 (of_z w64 z)) ≡ weighted word z = ap (weighted word) (weight-kept e) in
+          let as-handed = subst (λ (l : Line). Wrote (line_text_by gathered_form l) 0 before end bytes) same v in
+          subst Text-of its-made (own as-handed (omega (arith, fits)) (omega arith))
 
 -- ---- judging
-module _ (text : Text) (start : ℕ) where
-  abbrev faults_from : ℕ → ℕ → ℕ
-  faults_from k at = first_of (line_faults_by gathered_form degree_limit k (lines_of (drop at text)))
+module _ (text : Text) where
+  abbrev faults_from : ℕ → Text → ℕ
+  faults_from k rest = first_of (line_faults_by gathered_form degree_limit k (lines_of rest))
 
-  pub record Faultless (at count : ℕ) : Type 0 where
-    pub fits : at ≤ length text
-    pub far : count + 7 ≤ at
-    pub faults : faults_from 8 start ≡ faults_from (8 + count) at
+  pub record Faultless (rest : Text) (number : ℕ) : Type 0 where
+    pub some : 8 ≤ number
+    pub far : number + length rest ≤ 8 + length text
+    pub faults : faults_from 8 text ≡ faults_from number rest
 
-  pub faultless-none : 7 ≤ start → start ≤ length text → Faultless start 0
-  faultless-none h l = record { fits = l; far = omega arith; faults = rw add-zero refl }
+  module _ {rest : Text} {number : ℕ} (r : Faultless rest number) where
+    pub faultless-all : length rest ≡ 0 → faults_from 8 text ≡ 0
+    faultless-all h = r.faults ∙ rw (no-lines rest h) refl
 
-  pub faultless-all : {at count : ℕ} → Faultless at count → length text ≤ at → 0 ≡ faults_from 8 start
-  unfolding lines_of
-  faultless-all r h = sym (r.faults ∙ rw (drop_of_length-le text h) refl)
+    module _ (h : 0 < length rest) {end : ℕ} (e : end ≡ 0 + length (first_line (drop 0 rest))) where
+      pub faultless-fault : is_waiting_by gathered_form degree_limit (take end rest) ≡ false
+          → (number ≡ faults_from 8 text) × (number ≢ 0)
+      faultless-fault f =
+          let ends = line-ends rest e in
+          let b = behind-line ends.behind h in
+          let told = rw ends.line at f in
+          (sym (r.faults ∙ rw (b.split, told) refl), λ z. omega (arith, r.some))
 
-  module _ {at count end : ℕ} {w : WeightedRead} (r : Faultless at count) (h : at < length text)
-      (e : end ≡ at + length (first_line (drop at text))) (read : ReadWeighted (take (end - at) (drop at text)) w) where
-    line-ends : Next text at end
-    line-ends = next text at end e
-
-    told : w.formed ≡ is_waiting_by gathered_form degree_limit (first_line (drop at text))
-    told = rw line-ends.line at read.formed
-
-    pub faultless-fault : w.formed ≡ false → count + 8 ≡ faults_from 8 start
-    faultless-fault f = sym (r.faults ∙ rw (line-ends.split h, ← told, f) (add_comm 8 count))
-
-    pub faultless-next : w.formed ≡ true → Faultless end (count + 1)
-    faultless-next f = record {
-      fits = line-ends.fits r.fits;
-      far = omega (arith, line-ends.later h, r.far);
-      faults = r.faults ∙ rw (line-ends.split h, ← told, f) (ap (λ (k : ℕ). faults_from k end) (omega arith));
-    }
+      pub faultless-next : is_waiting_by gathered_form degree_limit (take end rest) ≡ true
+          → Faultless (take (length rest - end) (drop end rest)) (number + 1)
+      faultless-next f =
+          let ends = line-ends rest e in
+          let b = behind-line ends.behind h in
+          let told = rw ends.line at f in
+          record {
+            some = omega (arith, r.some);
+            far = omega (arith, b.shorter, r.far);
+            faults = r.faults ∙ rw (b.split, told, add-one) refl;
+          }
 
 -- ---- putting down
-module _ (text : Text) (start : ℕ) (page : List ℕ) (column : List ℤ) where
-  abbrev words_from : ℕ → List ℕ
-  words_from at = words_of (read_as (lines_of (drop at text)))
-
-  abbrev weights_from : ℕ → List ℤ
-  weights_from at = weights_of (read_as (lines_of (drop at text)))
-
-  pub record Down (at count : ℕ) (after : List ℕ) (beside : List ℤ) : Type 0 where
-    pub fits : at ≤ length text
-    pub formed : Each (WaitingBy gathered_form degree_limit) (lines_of (drop at text))
-    pub room : count + length (lines_of (drop at text)) ≤ length page
-    pub words : sets after count (words_from at) ≡ sets page 0 (words_from start)
-    pub weights : sets beside count (weights_from at) ≡ sets column 0 (weights_from start)
+module _ (text : Text) (page : List ℕ) (column : List ℤ) where
+  pub record Down (rest : Text) (count : ℕ) (after : List ℕ) (beside : List ℤ) : Type 0 where
+    pub formed : Each (WaitingBy gathered_form degree_limit) (lines_of rest)
+    pub room : count + length (lines_of rest) ≤ length page
+    pub words : sets after count (words_of (read_as (lines_of rest))) ≡ sets page 0 (words_of (read_as (lines_of text)))
+    pub weights :
+        sets beside count (weights_of (read_as (lines_of rest))) ≡ sets column 0 (weights_of (read_as (lines_of text)))
     pub same : length after ≡ length page
     pub as_long : length beside ≡ length column
     pub alike : length page ≡ length column
 
-  pub down-none : start ≤ length text → Each (WaitingBy gathered_form degree_limit) (lines_of (drop start text))
-      → length (lines_of (drop start text)) ≤ length page → length page ≡ length column → Down start 0 page column
-  down-none h f l a = record {
-    fits = h;
-    formed = f;
-    room = omega arith;
-    words = refl;
-    weights = refl;
-    same = refl;
-    as_long = refl;
-    alike = a;
-  }
+  module _ {rest : Text} {count : ℕ} {after : List ℕ} {beside : List ℤ} (p : Down rest count after beside) where
+    pub down-all : length rest ≡ 0 → PutDown (lines_of text) page column after beside
+    down-all h =
+        let none = no-lines rest h in
+        record { words = rw none at p.words; weights = rw none at p.weights }
 
-  pub down-all : {at count : ℕ} {after : List ℕ} {beside : List ℤ} → Down at count after beside → length text ≤ at
-      → PutDown (lines_of (drop start text)) page column after beside
-  unfolding lines_of
-  down-all p h =
-      let none = drop_of_length-le text h in
-      record { words = rw none at p.words; weights = rw none at p.weights }
+    module _ (h : 0 < length rest) {end : ℕ} (e : end ≡ 0 + length (first_line (drop 0 rest))) where
+      split : Each (WaitingBy gathered_form degree_limit)
+          (first_line rest ∷ lines_of (take (length rest - end) (drop end rest)))
+      split = let b = behind-line (line-ends rest e).behind h in rw b.split at p.formed
 
-  module _ {at count end : ℕ} {after : List ℕ} {beside : List ℤ} {w : WeightedRead} (p : Down at count after beside)
-      (h : at < length text) (e : end ≡ at + length (first_line (drop at text)))
-      (read : ToldWeighted (take (end - at) (drop at text)) w) where
-    next-line : Next text at end
-    next-line = next text at end e
+      pub down-formed : (held (weight (take end rest)) && limits (take end rest)) ≡ true
+      down-formed = rw (line-ends rest e).line (line-formed (first_line rest) split.0)
 
-    split : Each (WaitingBy gathered_form degree_limit) (first_line (drop at text) ∷ lines_of (drop end text))
-    split = rw (next-line.split h) at p.formed
+      fewer : suc (length (lines_of (take (length rest - end) (drop end rest)))) ≡ length (lines_of rest)
+      fewer = let b = behind-line (line-ends rest e).behind h in sym (ap length b.split)
 
-    its-line : ToldWeighted (first_line (drop at text)) w
-    its-line = rw next-line.line at read
+      pub down-room : (count < length after) × (count < length beside)
+      down-room = (omega (arith, fewer, p.room, p.same), omega (arith, fewer, p.room, p.alike, p.as_long))
 
-    its-form : w.formed ≡ true
-    its-form = line-formed its-line split.0
+      pub down-next : {word : ℕ} {z : ℤ} → word ≡ word_of (unit (line_by gathered_form (take end rest)))
+          → z ≡ weight (take end rest)
+          → Down (take (length rest - end) (drop end rest)) (count + 1) (set after count word)
+          (set beside count (to_z w64 (of_z w64 z)))
+      unfolding line_by
+      down-next {word} {z} w v =
+          let ends = line-ends rest e in
+          let b = behind-line ends.behind h in
+          let its-word = rw ends.line at w in
+          let kept = weight-kept (take end rest) down-formed v in
+          let its-weight = rw ends.line at v in
+          rw kept
+          (record {
+            formed = split.1;
+            room = omega (arith, fewer, p.room);
+            words = rw (its-word, add-one) (rw b.split at p.words);
+            weights = rw (its-weight, add-one) (rw b.split at p.weights);
+            same = length-set after count word ∙ p.same;
+            as_long = length-set beside count z ∙ p.as_long;
+            alike = p.alike;
+          })
 
-    pub down-room : (count < length after) × (count < length beside)
-    down-room =
-        let fewer = next-line.fewer h in
-        (omega (arith, fewer, p.room, p.same), omega (arith, fewer, p.room, p.alike, p.as_long))
+-- ---- whether a line was read
+module _ (t : Text) where
+  pub none-told : (r : Option Weighted) → ReadWeighted t r → {b : Bool} → is_some r ≡ not b → b ≡ true
+      → is_waiting_by gathered_form degree_limit t ≡ false
+  none-told None e n f = e
+  none-told (Some x) e n f = absurd (false≢true (sym (n ∙ rw f refl)))
 
-    pub down-next : Down end (count + 1) (set after count w.word) (set beside count w.coefficient)
-    unfolding line_by
-    down-next = record {
-      fits = next-line.fits p.fits;
-      formed = split.1;
-      room = omega (arith, next-line.fewer h, p.room);
-      words = rw (its-line.word its-form, add-one) (rw (next-line.split h) at p.words);
-      weights = rw (its-line.coefficient its-form, add-one) (rw (next-line.split h) at p.weights);
-      same = length-set after count w.word ∙ p.same;
-      as_long = length-set beside count w.coefficient ∙ p.as_long;
-      alike = p.alike;
-    }
+  pub some-told : (r : Option Weighted) → ReadWeighted t r → {b : Bool} → is_some r ≡ not b → b ≡ false
+      → is_waiting_by gathered_form degree_limit t ≡ true
+  some-told None e n f = absurd (false≢true (n ∙ rw f refl))
+  some-told (Some x) e n f = e.0

@@ -1,7 +1,7 @@
 -- The first seven lines of a gathered session's text: the mode's, and six that are read as those of a plain session.
 --   raised checks      the checks, each with the next number
 --   heads_from n body   the checks of the six lines of a body, with n lines in front of it; slip_from, the slip
-use Rattle.std.specs.Prelude.{◌&&◌, ◌∷◌, ◌+◌, ◌-◌, ◌^◌}
+use Rattle.std.specs.Prelude.{◌&&◌, ◌∷◌, ◌+◌, ◌-◌, ◌^◌, ◌≢◌}
 use mathlib.Core.Path.{◌≡◌, refl, sym, ◌∙◌, ap}
 use Prim.Native.Nat.{◌≤◌, ◌<◌}
 use native.Mathlib.Omega.{arith}
@@ -24,13 +24,19 @@ use Rattle.textreading.specs.Reading.{number_in, integer_in, list_in, lines_of, 
 use Rattle.textreading.proofs.Reading.Lines.{Next, next}
 use Rattle.pages.specs.declared.Slip.{Slip}
 use Rattle.pages.specs.Page.{slip_of}
-use Rattle.sessiontext.specs.declared.reading.HeadRead.{HeadRead}
-use Rattle.sessiontext.specs.SessionText.{gathered_form}
-use Rattle.sessiontext.specs.Reading.{is_number, is_integer, is_list, head_faults, head_faults_by, slip_in, slip_by}
-use Rattle.sessiontext.specs.Reading.Forms.{self}
-use Rattle.sessiontext.specs.Private.Read.{ReadHead}
-use Rattle.sessiontext.specs.Private.Weighted.{fronted_faults, ReadFronted}
-use Rattle.sessiontext.proofs.NumberLines.{Compared}
+use Rattle.sessiontext.specs.declared.reading.FirstLines.{FirstLines}
+use mir.Facts.{to_z-of_z}
+use mir.Syntax.{w64}
+use mir.Val.{to_z, of_z}
+use borrow.Author.Rules.{sfits_of}
+use borrow.Author.Tests.{not-false}
+use Rattle.sessiontext.proofs.Words.{held_fits}
+use Rattle.sessiontext.specs.SessionText.{held, gathered_form}
+use Rattle.sessiontext.specs.Reading.{is_number, is_integer, is_list, at, head_faults, head_faults_by, slip_by}
+use Rattle.sessiontext.specs.Reading.Forms.{self, is-number, is-integer}
+use Rattle.sessiontext.specs.Private.Read.{HeadOf}
+use Rattle.sessiontext.specs.Private.Weighted.{fronted_faults, FrontedHead}
+use Rattle.sessiontext.proofs.Told.{Compared}
 
 -- ---- checks with the next numbers
 abbrev raised : List Check → List Check
@@ -77,6 +83,16 @@ slip_from mode body =
 abbrev mode_line : Text
 mode_line = field "mode=" (ascii "gathered")
 
+-- the numbers of a slip that was read fit 64 bits
+formed-head : (text : Text) {h : FirstLines} → HeadOf text h
+    → (number_in (at text 3) < 2 ^ 63) × (held (integer_in (at text 4)) ≡ true)
+formed-head text head =
+    let a = none-applies (head_faults degree_limit text) refl head.passes in
+    let h = a.1.1.1 in (
+      (is-number (ascii "steps=") (2 ^ 63) (at text 3) (not-false _ h.1.0)).small,
+      (is-integer (ascii "settled=") (at text 4) (not-false _ h.1.1.0)).fits,
+    )
+
 module _ (text : Text) {front : ℕ} (e : front ≡ 0 + length (first_line (drop 0 text))) where
   abbrev rest : Text
   rest = drop front text
@@ -107,54 +123,57 @@ module _ (text : Text) {front : ℕ} (e : front ≡ 0 + length (first_line (drop
         same_test b (same (first_line text) mode_line) (λ t. self (sym front-line ∙ c.0 t))
         (λ t. c.1 (front-line ∙ same_lists (first_line text) mode_line t))
 
-    pub mode-fault : b ≡ false → (slip : Slip) → ReadFronted text (record { fault = 1; slip = slip; end = 0 })
-    mode-fault f slip = record {
-      first = rw (← mode-told, f) refl;
-      slip = λ z. absurd (omega arith);
-      far = λ z. absurd (omega arith);
-      fits = λ z. absurd (omega arith);
-      rest = λ z. absurd (omega arith);
-    }
+    pub mode-fault : b ≡ false → (1 ≡ first_of (fronted_faults text)) × (◌≢◌ {A = ℕ} 1 0)
+    mode-fault f = (rw (← mode-told, f) refl, λ z. omega arith)
 
-    module _ (t : b ≡ true) {r : HeadRead} (read : ReadHead rest r) where
+    module _ (t : b ≡ true) where
       mode-passes : first_of (fronted_faults text) ≡ first_of (raised (head_faults degree_limit rest))
       mode-passes = rw (← mode-told, t) (ap first_of heads-raised)
 
-      pub few : r.fault < 7
-      few = rw read.first (first_below 7 (head_faults degree_limit rest) (omega arith) refl)
+      pub head-fault : {k : ℕ} → k ≡ first_of (head_faults degree_limit rest) → k ≢ 0
+          → (k + 1 ≡ first_of (fronted_faults text)) × (k + 1 ≢ 0)
+      head-fault {k} e some =
+          let more : k + 1 ≡ suc k = omega arith in (
+            more ∙ ap suc e ∙ sym (mode-passes ∙ raised-some (head_faults degree_limit rest) (λ z. some (e ∙ z))),
+            λ z. omega arith,
+          )
 
-      pub head-fault : (r.fault ≡ 0 → ⊥) → (slip : Slip)
-          → ReadFronted text (record { fault = r.fault + 1; slip = slip; end = 0 })
-      head-fault some slip = record {
-        first =
-            let more : r.fault + 1 ≡ suc r.fault = omega arith in
-            more ∙ ap suc read.first
-            ∙ sym (mode-passes ∙ raised-some (head_faults degree_limit rest) (λ z. some (read.first ∙ z)));
-        slip = λ z. absurd (omega arith);
-        far = λ z. absurd (omega arith);
-        fits = λ z. absurd (omega arith);
-        rest = λ z. absurd (omega arith);
-      }
-
-      slip-same : (s slip : Slip) → s ≡ slip_in rest
-          → slip ≡ slip_of s.shape s.class s.settled s.lines s.steps 1 → slip ≡ slip_by gathered_form text
-      unfolding slip_by
-      slip-same s slip q p = p ∙ rw q (ap (slip_from 1) its-body)
+      pub few : {k : ℕ} → k ≡ first_of (head_faults degree_limit rest) → k < 7
+      few e = rw e (first_below 7 (head_faults degree_limit rest) (omega arith) refl)
 
       long : front ≡ 14
       long = omega (arith, e, ap length (sym front-line ∙ c.0 t))
 
-      pub end_fits : front + r.end ≤ length text
-      end_fits = omega (arith, read.fits, length-drop front text, front_fits)
+      module _ {h : FirstLines} (read : HeadOf rest h) where
+        pub end_fits : front + h.end ≤ length text
+        end_fits = omega (arith, read.fits, length-drop front text, front_fits)
 
-      pub head_read : (none : r.fault ≡ 0) (slip : Slip)
-          → slip ≡ slip_of r.slip.shape r.slip.class r.slip.settled r.slip.lines r.slip.steps 1
-          → ReadFronted text (record { fault = 0; slip = slip; end = front + r.end })
-      head_read none slip p = record {
-        first = sym (mode-passes ∙ raised-none (head_faults degree_limit rest) refl (sym read.first ∙ none));
-        slip = λ z. slip-same r.slip slip (read.slip none) p;
-        far = λ z. omega (arith, long, read.far none);
-        fits = λ z. end_fits;
-        rest = λ z.
-            ap lines_of (sym (drop-drop r.end front text)) ∙ read.rest ∙ ap (drop 6) its-body;
-      }
+        slip-same : slip_of h.slip.shape h.slip.class h.slip.settled h.slip.lines h.slip.steps 1 ≡ slip_by gathered_form text
+        unfolding slip_by
+        slip-same = rw read.slip (ap (slip_from 1) its-body)
+
+        steps-kept : to_z w64 (of_z w64 h.slip.steps) ≡ h.slip.steps
+        unfolding slip_by
+        steps-kept =
+            let good = formed-head rest read in
+            to_z-of_z {w = w64} (rw read.slip (sfits_of good.0))
+
+        settled-kept : to_z w64 (of_z w64 h.slip.settled) ≡ h.slip.settled
+        unfolding slip_by
+        settled-kept =
+            let good = formed-head rest read in
+            to_z-of_z {w = w64} (rw read.slip (held_fits _ good.1))
+
+        pub head_read : FrontedHead text
+            (record {
+              slip = slip_of h.slip.shape h.slip.class (to_z w64 (of_z w64 h.slip.settled)) h.slip.lines
+                  (to_z w64 (of_z w64 h.slip.steps)) 1;
+              end = front + h.end;
+            })
+        head_read = rw (steps-kept, settled-kept) (record {
+          passes = mode-passes ∙ raised-none (head_faults degree_limit rest) refl read.passes;
+          slip = slip-same;
+          far = omega (arith, long, read.far);
+          fits = end_fits;
+          rest = ap lines_of (sym (drop-drop h.end front text)) ∙ read.rest ∙ ap (drop 6) its-body;
+        })

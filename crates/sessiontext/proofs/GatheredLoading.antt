@@ -4,10 +4,10 @@ use mathlib.Core.Path.{◌≡◌, refl, sym, ◌∙◌, ap, ap₂}
 use mathlib.Core.List.{append-nil}
 use Prim.Native.Nat.{◌≤◌, ◌<◌}
 use native.Mathlib.Omega.{arith}
-use lib.ListN.{length-map}
-use lib.Seq.{length-sets}
+use lib.ListN.{length-map, length-drop}
+use lib.Seq.{length-sets, take_all}
 use borrow.Author.Tests.{eq-eqb, le-leb}
-use Rattle.theory.specs.Basics.{Bool, true, false, List, [], map, length, take, replicate}
+use Rattle.theory.specs.Basics.{Bool, true, false, List, [], map, length, take, drop, replicate}
 use Rattle.theory.specs.Basics.{ℕ, ℤ, pos, ◌=?◌, Each}
 use Rattle.theory.proofs.Basics.Laws.{each_map}
 use Rattle.theory.specs.Digits.{width}
@@ -23,11 +23,13 @@ use Rattle.pages.specs.Sound.{sound_with, sound_in, page_checks_in}
 use Rattle.pages.specs.Lawful.Gathered.{Roomy, gathered-lawful, lent-passes, read-put, zeros-put}
 use Rattle.sessiontext.specs.SessionText.{gathered_form}
 use Rattle.sessiontext.specs.SessionText.Faithful.Gathered.{gathered-faithful}
-use Rattle.sessiontext.specs.Reading.{line_by}
-use Rattle.sessiontext.specs.Reading.Forms.{WaitingBy}
+use Rattle.sessiontext.specs.Reading.{line_by, slip_by, lines_by, following_by, line_faults_by, fault_by}
+use Rattle.sessiontext.specs.Reading.Forms.{WaitingBy, formed}
 use Rattle.sessiontext.specs.Reading.Exact.{line-written}
-use Rattle.sessiontext.specs.Private.Weighted.{read_as, PutDown}
-use Rattle.sessiontext.proofs.Loading.{put_front}
+use Rattle.sessiontext.specs.Private.Weighted.{read_as, PutDown, AllFormed, FrontedHead}
+use Rattle.sessiontext.specs.declared.reading.FirstLines.{FirstLines}
+use Rattle.textreading.specs.Reading.{lines_of}
+use Rattle.sessiontext.proofs.Loading.{put_front, line-fault}
 
 small : degree_limit < width
 small = omega arith
@@ -54,12 +56,6 @@ module _ (slip : Slip) (ts : List Text) (count : slip.lines ≡ length ts) where
 
   module _ {page : List ℕ} {column : List ℤ} {after : List ℕ} {beside : List ℤ} (room : slip.lines ≤ length page)
       (alike : length page ≡ length column) (down : PutDown ts page column after beside) where
-    pub words-fit : slip.lines ≤ length after
-    words-fit = omega (arith, room, ap length down.words, length-sets page 0 (words_of lines))
-
-    pub weights-fit : slip.lines ≤ length beside
-    weights-fit = omega (arith, room, alike, ap length down.weights, length-sets column 0 (weights_of lines))
-
     front-words : take slip.lines after ≡ words_of lines
     front-words =
         ap (λ n. take n after) many-words ∙ ap (take (length (words_of lines))) down.words
@@ -138,3 +134,47 @@ module _ (slip : Slip) (ts : List Text) (count : slip.lines ≡ length ts) where
         ap₂ (λ (a : List ℕ) (b : List ℤ). (a, b))
         (p ∙ ap₂ (λ (a : List ℕ) (n : ℕ). a ++ replicate n 0) front-words words)
         (q ∙ ap₂ (λ (a : List ℤ) (n : ℕ). a ++ replicate n (pos 0)) front-weights weights)
+
+-- ---- what the first seven lines tell
+module _ (text : Text) {h : FirstLines} (head : FrontedHead text h) where
+  abbrev left : Text
+  left = take (length text - h.end) (drop h.end text)
+
+  pub left-whole : left ≡ drop h.end text
+  left-whole = take_all (length text - h.end) (drop h.end text) (omega (arith, length-drop h.end text))
+
+  pub left-rest : lines_of left ≡ following_by gathered_form text
+  left-rest = ap lines_of left-whole ∙ head.rest
+
+  pub left-lines : read_as (lines_of (drop h.end text)) ≡ lines_by gathered_form text
+  unfolding lines_by
+  left-lines = ap read_as head.rest
+
+  pub left-count : h.slip.lines ≡ length (following_by gathered_form text)
+  unfolding slip_by
+  left-count = ap (λ (s : Slip). s.lines) head.slip
+
+  pub lines-count : h.slip.lines ≡ length (lines_by gathered_form text)
+  unfolding lines_by
+  lines-count = left-count ∙ sym (length-map (following_by gathered_form text) (line_by gathered_form))
+
+  its-mode : h.slip.mode ≡ 1
+  unfolding slip_by
+  its-mode = ap (λ (s : Slip). s.mode) head.slip
+
+  pub left-fault : {k : ℕ} → k ≡ first_of (line_faults_by gathered_form degree_limit 8 (lines_of left))
+      → fault_by gathered_form degree_limit text ≡ k
+  left-fault e = line-fault gathered_form text refl head.passes (rw left-rest at e)
+
+  module _ (good : first_of (line_faults_by gathered_form degree_limit 8 (lines_of left)) ≡ 0) where
+    pub left-formed : Each (WaitingBy gathered_form degree_limit) (following_by gathered_form text)
+    left-formed = (formed gathered_form degree_limit text (left-fault (sym good))).lines
+
+    pub left-taken : (page : List ℕ) → h.slip.lines ≤ length page → length page ≤ page_limit → AllFormed text h.end h.slip
+    left-taken page room few = record {
+      fits = head.fits;
+      formed = rw head.rest left-formed;
+      count = rw head.rest left-count;
+      few = omega arith;
+      mode = its-mode;
+    }

@@ -1,6 +1,6 @@
 -- The first six lines of a text: where they start and end, and what the readers of each tell together.
 --   Six text a b c d e f   the six lines end at these places
-use Rattle.std.specs.Prelude.{◌&&◌, ◌∷◌, ◌+◌, ◌-◌}
+use Rattle.std.specs.Prelude.{◌+◌, ◌-◌, ◌^◌, ◌≢◌}
 use mathlib.Core.Path.{◌≡◌, refl, sym, ◌∙◌, ap}
 use Prim.Native.Nat.{◌≤◌, ◌<◌}
 use native.Mathlib.Decide.{dec_le}
@@ -8,24 +8,27 @@ use native.Mathlib.Nat.{lt_of_not-le}
 use native.Mathlib.Omega.{arith}
 use lib.ListN.{length-drop, drop_of_length-le}
 use lib.Seq.{drop-drop, get_or-drop, take_all}
-use borrow.Author.Tests.{not-false}
-use Rattle.theory.specs.Basics.{Bool, true, false, not, List, [], ℕ, length, get_or, take, drop}
-use Rattle.theory.specs.Basics.{◌=?◌, same, Each}
+use borrow.Author.Tests.{ne_eqb, eq-eqb}
+use borrow.Author.Rules.{sfits_of}
+use mir.Facts.{to_z-of_z}
+use mir.Syntax.{w64}
+use mir.Val.{to_z, of_z}
+use Rattle.sessiontext.specs.Reading.Forms.{is-number, is-integer}
+use Rattle.sessiontext.proofs.Words.{held_fits}
+use Rattle.theory.specs.Basics.{Bool, true, false, List, [], ℕ, ℤ, pos, length, get_or, take, drop}
+use Rattle.theory.specs.Basics.{◌=?◌, same}
 use Rattle.theory.proofs.Basics.Laws.{same_lists}
 use Rattle.theory.specs.Partition.{degree}
 use Rattle.theory.specs.Limits.{degree_limit}
-use Rattle.theory.specs.Refusals.{Check, first_of}
-use Rattle.theory.proofs.Refusals.Laws.{none-applies}
+use Rattle.theory.specs.Refusals.{first_of}
+use Rattle.theory.specs.ShapeWord.{shape_word}
+use Rattle.theory.specs.ClassWord.{class_word}
 use Rattle.text.specs.Text.{Text, ascii, decimal, field}
-use Rattle.textreading.specs.Reading.{number_in, list_in, lines_of, first_line}
-use Rattle.textreading.proofs.Reading.Lines.{Next}
+use Rattle.textreading.specs.Reading.{number_in, integer_in, list_in, lines_of, first_line}
+use Rattle.textreading.proofs.Reading.Lines.{Next, next}
 use Rattle.pages.specs.Page.{slip_of}
-use Rattle.sessiontext.specs.declared.numbers.NumberRead.{NumberRead}
-use Rattle.sessiontext.specs.declared.numbers.IntegerRead.{IntegerRead}
-use Rattle.sessiontext.specs.declared.partitions.ShapeRead.{ShapeRead}
-use Rattle.sessiontext.specs.declared.partitions.ClassRead.{ClassRead}
-use Rattle.sessiontext.specs.Reading.{at, following, head_faults, slip_in, slip_by}
-use Rattle.sessiontext.specs.Private.Read.{ReadNumber, ReadShape, ReadClass, ReadSteps, ReadSettled, read_checks, ReadHead}
+use Rattle.sessiontext.specs.Reading.{is_number, is_integer, is_list, at, following, head_faults, slip_by}
+use Rattle.sessiontext.specs.Private.Read.{HeadOf}
 
 -- ---- places
 module _ (text : Text) where
@@ -124,71 +127,101 @@ module _ (text : Text) where
           | no g ↦ lt_of_not-le g
         ]
 
--- ---- rows
--- a number that was not read is not asked for
-two-rows : (d s : Bool) (m n m' n' : ℕ) (rows : List Check) → (d ≡ true → m ≡ m') → (s ≡ true → n ≡ n')
-    → first_of ((not d, 1) ∷ (s && not (m =? n), 1) ∷ rows) ≡ first_of ((not d, 1) ∷ (s && not (m' =? n'), 1) ∷ rows)
-two-rows false s m n m' n' rows e f = refl
-two-rows true false m n m' n' rows e f = refl
-two-rows true true m n m' n' rows e f = rw (e refl, f refl) refl
+-- ---- what the readers tell: the first of the checks that applies, and where none does, the slip
+module _ (text : Text) where
+  abbrev pub fault : ℕ
+  fault = first_of (head_faults degree_limit text)
 
--- ---- what the readers tell
-module _ (text : Text) {d : NumberRead} {s : ShapeRead} {k : ClassRead} {n z : IntegerRead} {counted : Bool} {count : ℕ}
-    (degree-read : ReadNumber (ascii "degree=") (at text 0) d) (shape : ReadShape (at text 1) s)
-    (class : ReadClass (at text 2) k) (steps : ReadSteps (at text 3) n) (settled : ReadSettled (at text 4) z)
-    (count-is : count ≡ length (following text))
-    (counted_is : counted ≡ same (at text 5) (field "lines=" (decimal count))) where
-  abbrev others : List Check
-  others =
-      (not s.formed, 2) ∷ (not k.formed, 3) ∷ (not n.formed, 4) ∷ (not z.formed, 5) ∷ (not counted, 6) ∷ []
+  abbrev is_degree : Bool
+  is_degree = is_number (ascii "degree=") (2 ^ 64) (at text 0)
 
-  abbrev rows : List Check
-  rows = read_checks d s k.formed n.formed z.formed counted
+  abbrev is_shape : Bool
+  is_shape = is_list degree_limit (ascii "shape=") (at text 1)
 
-  rows_same : first_of rows ≡ first_of (head_faults degree_limit text)
-  rows_same =
-      two-rows d.formed s.formed d.number s.degree (number_in (at text 0)) (degree (list_in (at text 1)))
-      others
-      degree-read.number shape.degree
-      ∙ rw (
-        degree-read.formed,
-        shape.formed,
-        class.formed,
-        steps.formed,
-        settled.formed,
-        counted_is,
-        count-is,
-      ) refl
+  abbrev is_class : Bool
+  is_class = is_list degree_limit (ascii "class=") (at text 2)
 
-  module _ {fault : ℕ} (fault-is : fault ≡ first_of rows) where
-    all-formed : fault ≡ 0 → Each (λ row. row.0 ≡ false) rows
-    all-formed z = none-applies rows refl (sym fault-is ∙ z)
+  abbrev is_steps : Bool
+  is_steps = is_number (ascii "steps=") (2 ^ 63) (at text 3)
 
-    slip-read : fault ≡ 0 → slip_of s.word k.word z.number count n.number 0 ≡ slip_in text
-    unfolding slip_by
-    slip-read e =
-        let a = (all-formed e).1.1 in
-        rw (
-          shape.word (not-false s.formed a.0),
-          class.word (not-false k.formed a.1.0),
-          steps.number (not-false n.formed a.1.1.0),
-          settled.number (not-false z.formed a.1.1.1.0),
-          count-is,
-        ) refl
+  abbrev is_settled : Bool
+  is_settled = is_integer (ascii "settled=") (at text 4)
 
-    sixth-there : fault ≡ 0 → at text 5 ≡ [] → ⊥
-    sixth-there e none =
-        let c = not-false counted (all-formed e).1.1.1.1.1.1.0 in
-        let whole = same_lists (at text 5) (field "lines=" (decimal count)) (sym counted_is ∙ c) in
-        omega (arith, ap length (sym none ∙ whole))
+  pub no-degree : is_degree ≡ false → fault ≡ 1
+  no-degree d = rw d refl
 
-    pub head_read : {a b c e f end : ℕ} → Six text a b c e f end
-        → ReadHead text
-        (record { fault = fault; slip = slip_of s.word k.word z.number count n.number 0; end = end })
-    head_read six = record {
-      first = fault-is ∙ rows_same;
-      slip = slip-read;
-      far = λ e. far text six (sixth-there e);
-      fits = (ends text six).5;
-      rest = rest text six;
-    }
+  module _ (d : is_degree ≡ true) where
+    pub no-shape : is_shape ≡ false → fault ≡ 2
+    no-shape s = rw (d, s) refl
+
+    module _ (s : is_shape ≡ true) where
+      pub other-degree : (number_in (at text 0) ≡ degree (list_in (at text 1)) → ⊥) → fault ≡ 1
+      other-degree n = rw (d, s, ne_eqb (number_in (at text 0)) (degree (list_in (at text 1))) n) refl
+
+      module _ (same_degree : number_in (at text 0) ≡ degree (list_in (at text 1))) where
+        equal : number_in (at text 0) =? degree (list_in (at text 1)) ≡ true
+        equal = eq-eqb (number_in (at text 0)) (degree (list_in (at text 1))) same_degree
+
+        pub no-class : is_class ≡ false → fault ≡ 3
+        no-class c = rw (d, s, equal, c) refl
+
+        module _ (c : is_class ≡ true) where
+          pub no-steps : is_steps ≡ false → fault ≡ 4
+          no-steps n = rw (d, s, equal, c, n) refl
+
+          module _ (n : is_steps ≡ true) where
+            pub no-settled : is_settled ≡ false → fault ≡ 5
+            no-settled z = rw (d, s, equal, c, n, z) refl
+
+            module _ (z : is_settled ≡ true) {lines : ℕ} (count : lines ≡ length (following text)) where
+              pub no-count : same (at text 5) (field "lines=" (decimal lines)) ≡ false → fault ≡ 6
+              no-count l = rw (d, s, equal, c, n, z, ← count, l) refl
+
+              module _ (l : same (at text 5) (field "lines=" (decimal lines)) ≡ true) where
+                no-fault : fault ≡ 0
+                no-fault = rw (d, s, equal, c, n, z, ← count, l) refl
+
+                sixth-there : at text 5 ≡ [] → ⊥
+                sixth-there none =
+                    omega (arith, ap length (sym none ∙ same_lists (at text 5) (field "lines=" (decimal lines)) l))
+
+                pub head_read : {e1 e2 e3 e4 e5 end : ℕ} → Six text e1 e2 e3 e4 e5 end
+                    → {shape class : ℕ} {settled steps : ℤ} → shape ≡ shape_word (list_in (at text 1))
+                    → class ≡ class_word (list_in (at text 2)) → settled ≡ integer_in (at text 4)
+                    → steps ≡ pos (number_in (at text 3))
+                    → HeadOf text (record { slip = slip_of shape class settled lines steps 0; end = end })
+                unfolding slip_by
+                head_read six es ec ez en = record {
+                  passes = no-fault;
+                  slip = rw (es, ec, ez, en, count) refl;
+                  far = far text six sixth-there;
+                  fits = (ends text six).5;
+                  rest = rest text six;
+                }
+
+-- ---- as the calls hand it on
+module _ (text : Text) where
+  pub six : {e1 e2 e3 e4 e5 end : ℕ} → e1 ≡ 0 + length (first_line (drop 0 text))
+      → e2 ≡ e1 + length (first_line (drop e1 text)) → e3 ≡ e2 + length (first_line (drop e2 text))
+      → e4 ≡ e3 + length (first_line (drop e3 text)) → e5 ≡ e4 + length (first_line (drop e4 text))
+      → end ≡ e5 + length (first_line (drop e5 text)) → Six text e1 e2 e3 e4 e5 end
+  six p q r s t u = record {
+    one = next text 0 _ p;
+    two = next text _ _ q;
+    three = next text _ _ r;
+    four = next text _ _ s;
+    five = next text _ _ t;
+    six = next text _ _ u;
+  }
+
+  pub at-fault : {k : ℕ} → 0 < k → fault text ≡ k → (k ≡ fault text) × (k ≢ 0)
+  at-fault h e = (sym e, λ z. omega arith)
+
+  pub steps-kept : {z : ℤ} → is_steps text ≡ true → z ≡ pos (number_in (at text 3)) → to_z w64 (of_z w64 z) ≡ z
+  steps-kept f e =
+      let line = is-number (ascii "steps=") (2 ^ 63) (at text 3) f in
+      to_z-of_z {w = w64} (rw e (sfits_of line.small))
+
+  pub settled-kept : {z : ℤ} → is_settled text ≡ true → z ≡ integer_in (at text 4) → to_z w64 (of_z w64 z) ≡ z
+  settled-kept {z} f e =
+      to_z-of_z {w = w64} (held_fits z (rw e (is-integer (ascii "settled=") (at text 4) f).fits))

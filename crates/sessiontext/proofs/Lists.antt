@@ -1,20 +1,27 @@
 -- A partition that is read off a text: what a column of 16 bytes has of its numbers is enough to judge it.
-use Rattle.std.specs.Prelude.{◌∷◌}
+use Rattle.std.specs.Prelude.{◌∷◌, ◌-◌, Option, None, Some, MatchOption}
+use Rattle.std.specs.Slice.{IsGetRangeResult}
+use denote.Ref.{Bor}
 use mathlib.Core.Path.{◌≡◌, refl, sym, ◌∙◌, ap}
+use mathlib.Core.Logic.{inl, inr}
 use mathlib.Core.Bool.{false≢true}
 use Prim.Native.Nat.{◌≤◌, ◌<◌}
 use native.Mathlib.Omega.{arith}
 use lib.ListN.{length-map}
 use borrow.Author.Tests.{ltb-false, le-ltb, not-false}
-use Rattle.theory.specs.Basics.{true, false, List, [], map, ℕ, length, take, ◌<?◌}
+use Rattle.theory.specs.Basics.{true, false, List, [], map, ℕ, length, ◌<?◌}
 use Rattle.theory.proofs.Basics.Keep.{same_test}
 use Rattle.theory.specs.Partition.{Parts, is_partition, degree}
 use Rattle.theory.proofs.Partition.Laws.{length-degree}
 use Rattle.theory.specs.Limits.{degree_limit}
 use Rattle.theory.specs.Refusals.{first_of}
 use Rattle.theory.proofs.Refusals.Laws.{none-applies}
-use Rattle.words.specs.Answers.{WordAnswer}
-use Rattle.words.specs.Answers.{worded}
+use Rattle.std.specs.Result.{result_ok}
+use Rattle.std.specs.declared.result.Result.{Result}
+use Rattle.std.specs.declared.result.Result.TheVariants.{Ok, Err}
+use Rattle.words.specs.declared.refusal.Refusal.{Refusal}
+use Rattle.words.specs.Answers.{WordAnswer, word_told, worded}
+use Rattle.words.proofs.Told.{refuses}
 use Rattle.words.specs.Private.Reading.{list_checks}
 use Rattle.words.proofs.Callers.{word-given-by}
 use Rattle.text.specs.Text.{Text}
@@ -23,7 +30,7 @@ use Rattle.text.specs.Wrote.Laws.{wrote-length, wrote-take}
 use Rattle.textreading.specs.Reading.{small, list_in}
 use Rattle.sessiontext.specs.Reading.{in_limit}
 use Rattle.sessiontext.specs.Reading.Forms.{InLimit, in-limit, limit-in}
-use Rattle.sessiontext.specs.Private.Read.{no_parts, ReadParts}
+use Rattle.sessiontext.specs.Private.Read.{Tells}
 
 -- ---- small numbers are whole in a byte
 small_same : (ns : List ℕ) → degree (map small ns) ≤ degree_limit → map small ns ≡ ns
@@ -51,64 +58,63 @@ module _ (large : ℕ) (some : 0 <? large ≡ true) (ps : Parts) where
         small = ltb-false degree_limit (degree ps) a.1.0;
       }
 
--- the word of a list that was not refused
-pub word-within : (word_of : Parts → ℕ) (large : ℕ) → 0 <? large ≡ true → (ps : Parts) {a : WordAnswer}
-    → a ≡ worded (list_checks degree_limit large ps) (word_of ps) → a.refused ≡ 0
-    → InLimit degree_limit ps × (a.word ≡ word_of ps)
-word-within word_of large some ps {a} e z =
-    let given = word-given-by (list_checks degree_limit large ps) (word_of ps) a e z in
-    (pass-rows large some ps given.0, ap (λ (x : WordAnswer). x.word) given.1)
+module _ (word_of : Parts → ℕ) (large : ℕ) (some : 0 <? large ≡ true) (ps : Parts) {a : WordAnswer}
+    (e : a ≡ worded (list_checks degree_limit large ps) (word_of ps)) where
+  word-given : a.refused ≡ 0 → (in_limit degree_limit ps ≡ true) × (a.word ≡ word_of ps)
+  word-given z =
+      let given = word-given-by (list_checks degree_limit large ps) (word_of ps) a e z in
+      (limit-in (pass-rows large some ps given.0), ap (λ (x : WordAnswer). x.word) given.1)
 
-no-parts : (word_of : Parts → ℕ) (t : Text) (column : List ℕ) → (InLimit degree_limit (list_in t) → ⊥)
-    → ReadParts word_of t no_parts column
-no-parts word_of t column n = record {
-  formed = same_test false (in_limit degree_limit (list_in t)) (λ b. absurd (false≢true b))
-      (λ f. absurd (n (in-limit degree_limit (list_in t) f)));
-  inside = λ b. absurd (false≢true b);
-  front = λ b. absurd (false≢true b);
-  word = λ b. absurd (false≢true b);
-}
+  word-refused : (a.refused ≡ 0 → ⊥) → in_limit degree_limit ps ≡ false
+  word-refused n =
+      same_test (in_limit degree_limit ps) false
+      (λ f. let pass = rows_pass large some ps (in-limit degree_limit ps f) in
+      absurd (n (ap (λ (x : WordAnswer). x.refused) e ∙ rw pass refl)))
+      (λ b. absurd (false≢true b))
 
--- ---- the column
-module _ (word_of : Parts → ℕ) (t : Text) {column after : List ℕ} {count : ℕ} (long : length column ≡ 16)
-    (w : Wrote (map small (list_in t)) 0 column count after) where
-  pub many-parts : 16 < count → ReadParts word_of t no_parts after
+pub word-told : (word_of : Parts → ℕ) (large : ℕ) (some : 0 <? large ≡ true) (ps : Parts) (r : Result ℕ Refusal)
+    → word_told r ≡ worded (list_checks degree_limit large ps) (word_of ps)
+    → Tells (in_limit degree_limit ps) (word_of ps) (result_ok r)
+word-told word_of large some ps (Ok w) e = word-given word_of large some ps e refl
+word-told word_of large some ps (Err d) e = word-refused word_of large some ps e (refuses d)
+
+-- ---- the numbers in a text
+abbrev pub told_parts : Text → Parts
+told_parts t = map small (list_in t)
+
+module _ (t : Text) where
+  pub many-parts : 16 < length (list_in t) → in_limit degree_limit (list_in t) ≡ false
   many-parts h =
-      no-parts word_of t after
-      (λ i.
-      omega (arith, w.ends, length-map (list_in t) small, length-degree (list_in t) i.partition, i.small))
+      same_test (in_limit degree_limit (list_in t)) false
+      (λ f. let i = in-limit degree_limit (list_in t) f in
+      absurd (omega (arith, length-degree (list_in t) i.partition, i.small)))
+      (λ b. absurd (false≢true b))
 
-  module _ (few : count ≤ 16) where
-    room : length (map small (list_in t)) ≤ length column
-    room = omega (arith, w.ends)
+  pub parts-same : in_limit degree_limit (told_parts t) ≡ true → told_parts t ≡ list_in t
+  parts-same f = small_same (list_in t) (in-limit degree_limit (told_parts t) f).small
 
-    pub inside : count ≤ length after
-    inside = omega (arith, wrote-length w)
+  pub limit_same : in_limit degree_limit (told_parts t) ≡ in_limit degree_limit (list_in t)
+  limit_same =
+      same_test (in_limit degree_limit (told_parts t)) (in_limit degree_limit (list_in t))
+      (λ f. rw (parts-same f) at f)
+      (λ f. let same = same-small (list_in t) (in-limit degree_limit (list_in t) f).small in rw same f)
 
-    pub read-front : take count after ≡ map small (list_in t)
-    read-front = wrote-take w (omega arith) room
+  pub parts-told : (word_of : Parts → ℕ) (r : Option ℕ) {ps : Parts} → ps ≡ told_parts t
+      → Tells (in_limit degree_limit ps) (word_of ps) r → Tells (in_limit degree_limit (list_in t)) (word_of (list_in t)) r
+  parts-told word_of None e o = rw (← limit_same, ← e) o
+  parts-told word_of (Some w) e o =
+      let f = rw e at o.0 in
+      (sym limit_same ∙ f, o.1 ∙ ap word_of (e ∙ parts-same f))
 
-    module _ (large : ℕ) (some : 0 <? large ≡ true) {a : WordAnswer}
-        (e : a ≡ worded (list_checks degree_limit large (take count after)) (word_of (take count after))) where
-      answered : a ≡ worded (list_checks degree_limit large (map small (list_in t))) (word_of (map small (list_in t)))
-      answered = rw read-front at e
-
-      pub parts-refused : (a.refused ≡ 0 → ⊥) → ReadParts word_of t no_parts after
-      parts-refused n =
-          no-parts word_of t after
-          (λ i.
-          let same = same-small (list_in t) i.small in
-          let pass = rows_pass large some (list_in t) i in
-          n (ap (λ (x : WordAnswer). x.refused) (rw same at answered) ∙ rw pass refl))
-
-      pub parts-read : a.refused ≡ 0
-          → ReadParts word_of t (record { formed = true; count = count; word = a.word }) after
-      parts-read z =
-          let given = word-within word_of large some (map small (list_in t)) answered z in
-          let same = small_same (list_in t) given.0.small in
-          record {
-            formed = sym (limit-in (rw same at given.0));
-            inside = λ b. inside;
-            front = λ b. read-front ∙ same;
-            word = λ b. given.1 ∙ ap word_of same;
-          }
+  pub parts-got : {column after : List ℕ} {count : ℕ} → length column ≡ 16
+      → Wrote (told_parts t) 0 column count after → (r : Option (Bor (List ℕ))) → IsGetRangeResult after 0 count r
+      → MatchOption r (16 < length (list_in t)) (λ parts. parts.now ≡ told_parts t)
+  parts-got {column} {after} {count} long w None g = elim g.0 [
+    | inl h ↦ absurd (omega arith)
+    | inr h ↦ omega (arith, w.ends, wrote-length w, length-map (list_in t) small)
+  ]
+  parts-got {column} {after} {count} long w (Some parts) g =
+      let room : length (told_parts t) ≤ length column =
+      omega (arith, w.ends, wrote-length w, g.0.1, length-map (list_in t) small) in
+      let whole : count - 0 ≡ count = omega arith in
+      (rw whole at g.0.2) ∙ wrote-take w (omega arith) room

@@ -6,10 +6,10 @@ use Prim.Native.Nat.{◌≤◌, ◌<◌}
 use native.Mathlib.Nat.{zero-add}
 use native.Mathlib.Omega.{arith}
 use mathlib.Core.List.{append_assoc}
-use lib.ListN.{length-map}
-use lib.Seq.{sets, sets-eq, length-sets, take-append_seam}
+use lib.ListN.{length-map, length-drop}
+use lib.Seq.{sets, sets-eq, length-sets, take-append_seam, take_all}
 use borrow.Author.Tests.{lt-ltb, le-ltb, ne_eqb}
-use Rattle.theory.specs.Basics.{Bool, true, false, cond, List, [], map, length, take, replicate}
+use Rattle.theory.specs.Basics.{Bool, true, false, cond, List, [], map, length, take, drop, replicate}
 use Rattle.theory.specs.Basics.{ℕ, ◌=?◌}
 use Rattle.theory.specs.Limits.{degree_limit}
 use Rattle.theory.specs.Refusals.{Check, first_of, no-7, no-10, no-16}
@@ -25,10 +25,13 @@ use Rattle.pages.specs.Page.{word_of, blank, padded}
 use Rattle.pages.specs.Budget.{budget_of, spent_all}
 use Rattle.pages.specs.Budget.Laws.{budget-sound}
 use Rattle.sessiontext.specs.Calls.{Loaded}
-use Rattle.sessiontext.specs.SessionText.{Form}
+use Rattle.sessiontext.specs.SessionText.{Form, plain_form}
 use Rattle.sessiontext.specs.SessionText.Faithful.{Faithful}
 use Rattle.sessiontext.specs.Reading.{front_faults, following_by, line_faults_by, head_faults_by, faults_by, fault_by}
-use Rattle.sessiontext.specs.Reading.{slip_by, lines_by, line_in, following, slip_in, lines_in}
+use Rattle.sessiontext.specs.Reading.{slip_by, lines_by, line_in, line_faults, following, slip_in, lines_in}
+use Rattle.sessiontext.specs.declared.reading.FirstLines.{FirstLines}
+use Rattle.sessiontext.specs.Private.Read.{HeadOf}
+use Rattle.pages.specs.declared.Slip.{Slip}
 use Rattle.sessiontext.specs.Calls.{loaded, load_checks_by, load_by}
 
 -- ---- the line at fault
@@ -138,3 +141,24 @@ module _ (text : Text) where
       let long : length words ≡ length (lines_in text) = length-map (lines_in text) word_of in
       let cleared = put-cleared 0 words page (omega arith) in
       c ∙ rw (w, t, n, ← long) cleared
+
+-- ---- what the first six lines tell
+module _ (text : Text) {h : FirstLines} (head : HeadOf text h) where
+  abbrev left : Text
+  left = take (length text - h.end) (drop h.end text)
+
+  pub head-count : h.slip.lines ≡ length (lines_in text)
+  unfolding slip_by lines_by
+  head-count = ap (λ (s : Slip). s.lines) head.slip ∙ sym (length-map (following text) line_in)
+
+  pub head-follows : h.slip.lines ≡ length (following text)
+  unfolding slip_by
+  head-follows = ap (λ (s : Slip). s.lines) head.slip
+
+  pub head-rest : lines_of left ≡ following text
+  head-rest =
+      ap lines_of (take_all (length text - h.end) (drop h.end text) (omega (arith, length-drop h.end text))) ∙ head.rest
+
+  pub head-line-fault : {k : ℕ} → k ≡ first_of (line_faults degree_limit 7 (lines_of left))
+      → fault_by plain_form degree_limit text ≡ k
+  head-line-fault e = line-fault plain_form text refl head.passes (rw head-rest at e)

@@ -2,94 +2,53 @@
 use Rattle.std.specs.Prelude.{◌∷◌, ◌++◌, ◌+◌, ◌-◌, ◌/◌, ◌%◌, ◌^◌}
 use mathlib.Core.Path.{◌≡◌, refl, sym, ◌∙◌, ap}
 use mathlib.Core.List.{append_assoc, append-nil}
-use mathlib.Core.Bool.{false≢true}
 use Prim.Native.Nat.{◌≤◌, ◌<◌}
-use native.Mathlib.Decide.{dec_le}
-use native.Mathlib.Nat.{lt_of_not-le}
 use native.Mathlib.Numerals.{add-one}
 use native.Mathlib.Omega.{arith}
-use lib.ListN.{get_or-eq_default, set, length-set, length-append, length-drop, take-append-drop}
-use lib.Seq.{drop-cons, drop-drop, take-suc-set}
-use Rattle.theory.specs.Basics.{Bool, true, false, ◌<?◌, List, [], map, length, get_or, take, drop, joined}
-use Rattle.theory.specs.Basics.{ℕ, ℤ, pos, signed}
+use lib.ListN.{set}
+use lib.Seq.{drop_at, take_all, take-suc-set}
+use Rattle.theory.specs.Basics.{Bool, List, [], map, length, get_or, take, drop, joined}
+use Rattle.theory.specs.Basics.{ℕ, suc, ℤ, pos, signed}
 use Rattle.theory.proofs.Bounds.Laws.{abs-signed}
-use Rattle.theory.specs.Partition.{Parts}
 use Rattle.theory.specs.Digits.{width}
 use Rattle.theory.specs.ShapeWord.{shape_word}
 use Rattle.theory.specs.ClassWord.{class_word}
 use Rattle.theory.specs.Limits.{degree_limit}
-use Rattle.words.specs.Answers.{WordAnswer}
-use Rattle.words.specs.Answers.{worded}
-use Rattle.words.specs.Private.Reading.{list_checks}
 use Rattle.text.specs.Text.{Text, ascii, decimal, commas, list_text}
 use Rattle.text.specs.Text.Decimals.{one-digit, two_digits}
 use Rattle.textreading.specs.Reading.{first_line}
 use Rattle.textreading.proofs.Reading.Lines.{Line, line_first}
 use Rattle.pages.specs.Page.{word_of, plain}
-use Rattle.sessiontext.specs.declared.straight.ListAt.{ListAt}
-use Rattle.sessiontext.specs.declared.straight.WordAt.{WordAt}
 use Rattle.sessiontext.specs.SessionText.{sign_text, waiting_text, weighted_text}
 use Rattle.sessiontext.specs.Reading.Fields.{waiting-formed, waiting-same}
 use Rattle.sessiontext.specs.Reading.Back.{waiting-line}
 use Rattle.sessiontext.specs.Reading.{line_in}
 use Rattle.sessiontext.specs.Reading.Forms.{InLimit, Waiting}
 use Rattle.sessiontext.specs.SessionText.Faithful.Plain.{plain-faithful, sign_read}
-use Rattle.sessiontext.specs.Private.Stands.{Stands, ListStands, WordStands, LineStands}
-use Rattle.sessiontext.proofs.Lists.{word-within}
+use Rattle.sessiontext.specs.Private.Stands.{WordRead, LineRead}
 use Rattle.sessiontext.proofs.WaitingLines.{shape-kept}
 
--- ---- one after the other
-inside : (text : Text) (at : ℕ) → 0 < get_or text at 0 → at < length text
-inside text at h = elim (dec_le (length text) at) [
-  | yes l ↦ absurd (omega (arith, get_or-eq_default text 0 l))
-  | no g ↦ lt_of_not-le g
-]
+-- ---- parts
+pub one-part : (t : Text) → 49 ≤ get_or t 0 0 → get_or t 0 0 ≤ 57
+    → t ≡ decimal (get_or t 0 0 - 48) ++ take (length t - 1) (drop 1 t)
+one-part [] l h = absurd (omega arith)
+one-part (x ∷ t) l h =
+    let same : 48 + (x - 48) ≡ x = omega arith in
+    let rest : suc (length t) - 1 ≡ length t = omega arith in
+    rw (one-digit (x - 48) (omega arith), same, rest, take_all (length t) t (omega arith))
 
-module _ {text : Text} where
-  pub stands-none : {at : ℕ} → at ≤ length text → Stands [] text at at
-  stands-none h = record { fits = h; whole = refl }
-
-  pub stands-then : {t u : Text} {at place end : ℕ} → Stands t text at place → Stands u text place end
-      → Stands (t ++ u) text at end
-  stands-then {t} {u} a b = record {
-    fits = b.fits;
-    whole = a.whole ∙ ap (λ (rest : Text). t ++ rest) b.whole ∙ sym (append_assoc t u _);
-  }
-
-  pub stands-byte : {byte at : ℕ} → byte ≡ get_or text at 0 → 0 < byte → Stands (byte ∷ []) text at (at + 1)
-  stands-byte {byte} {at} e h =
-      let l = inside text at (rw e at h) in
-      record { fits = omega arith; whole = rw (add-one, e) (drop-cons text at 0 l) }
-
-  pub stands_same : {t : Text} {at end : ℕ} → at ≤ end → end ≤ length text → take (end - at) (drop at text) ≡ t
-      → Stands t text at end
-  stands_same {t} {at} {end} l h e =
-      let far : at + (end - at) ≡ end = omega arith in
-      record {
-        fits = h;
-        whole =
-            sym (take-append-drop (end - at) (drop at text))
-            ∙ rw (e, drop-drop (end - at) at text, far) refl;
-      }
-
-  -- ---- parts
-  pub one-stands : {at first : ℕ} → first ≡ get_or text at 0 → 49 ≤ first → first ≤ 57
-      → Stands (decimal (first - 48)) text at (at + 1)
-  one-stands {at} {first} e l h =
-      let same : 48 + (first - 48) ≡ first = omega arith in
-      rw (one-digit (first - 48) (omega arith), same) (stands-byte e (omega arith))
-
-  pub two-stand : {at first second : ℕ} → first ≡ get_or text at 0 → first ≡ 49 → second ≡ get_or text (at + 1) 0
-      → 48 ≤ second → second ≤ 57 → Stands (decimal (second - 38)) text at (at + 2)
-  two-stand {at} {first} {second} e one f l h =
-      let tens : 48 + (second - 38) / 10 ≡ first = omega arith in
-      let ones : 48 + (second - 38) % 10 ≡ second = omega arith in
-      let end : at + 2 ≡ at + 1 + 1 = omega arith in
-      rw (two_digits (second - 38) (omega arith) (omega arith), tens, ones, end)
-      (stands-then (stands-byte e (omega arith)) (stands-byte f (omega arith)))
+pub two-part : (t : Text) → 2 ≤ length t → get_or t 0 0 ≡ 49 → 48 ≤ get_or t 1 0 → get_or t 1 0 ≤ 57
+    → t ≡ decimal (get_or t 1 0 - 38) ++ take (length t - 2) (drop 2 t)
+two-part [] n e l h = absurd (omega arith)
+two-part (x ∷ []) n e l h = absurd (omega arith)
+two-part (x ∷ y ∷ t) n e l h =
+    let tens : 48 + (y - 38) / 10 ≡ x = omega arith in
+    let ones : 48 + (y - 38) % 10 ≡ y = omega arith in
+    let rest : suc (suc (length t)) - 2 ≡ length t = omega arith in
+    rw (two_digits (y - 38) (omega arith) (omega arith), tens, ones, rest, take_all (length t) t (omega arith))
 
 -- ---- lists
-abbrev ended : List ℕ → Text
+abbrev pub ended : List ℕ → Text
 ended ps = joined (λ p. decimal p ++ ascii ",") ps
 
 ended-next : (ps : List ℕ) (p : ℕ) → ended (ps ++ p ∷ []) ≡ ended ps ++ (decimal p ++ ascii ",")
@@ -111,74 +70,62 @@ list-ended (q ∷ ps) p =
     ap (λ (t : Text). decimal q ++ t) (after-comma ps p ∙ ap (λ (t : Text). ascii "," ++ t) (list-ended ps p))
     ∙ sym (simp append_assoc)
 
-pub record Listing (text : Text) (at : ℕ) (column : List ℕ) (count place : ℕ) (after : List ℕ) : Type 0 where
-  pub same : length after ≡ length column
-  pub few : count ≤ length after
-  pub stands : Stands (ended (take count after)) text at place
+-- what is behind a byte at the front
+pub byte-front : (t : Text) → 1 ≤ length t → t ≡ get_or t 0 0 ∷ take (length t - 1) (drop 1 t)
+byte-front [] h = absurd (omega arith)
+byte-front (x ∷ t) h =
+    let rest : suc (length t) - 1 ≡ length t = omega arith in
+    rw (rest, take_all (length t) t (omega arith))
 
-pub listing_none : {text : Text} {at : ℕ} (column : List ℕ) → at ≤ length text → Listing text at column 0 at column
-listing_none column h = record { same = refl; few = omega arith; stands = stands-none h }
+module _ (text : Text) {count : ℕ} (column : List ℕ) (more : count < length column) (part : ℕ) {left : Text}
+    (behind : Text)
+    (e : text ≡ ended (take count column) ++ left) (p : left ≡ decimal part ++ behind) (h : 1 ≤ length behind) where
+  abbrev rest : Text
+  rest = take (length behind - 1) (drop 1 behind)
 
-module _ {text : Text} {at : ℕ} {column : List ℕ} {count place : ℕ} {after : List ℕ}
-    (l : Listing text at column count place after) (more : count < length after) (part : ℕ) {end : ℕ}
-    (read : Stands (decimal part) text place end) where
-  pub listing-next : {byte : ℕ} → byte ≡ get_or text end 0 → byte ≡ 44
-      → Listing text at column (count + 1) (end + 1) (set after count part)
-  listing-next {byte} e b = record {
-    same = length-set after count part ∙ l.same;
-    few = omega (arith, length-set after count part);
-    stands =
-        rw (add-one, take-suc-set after count part more, ended-next (take count after) part)
-        (stands-then l.stands (stands-then read (stands-byte (sym b ∙ e) (omega arith))));
-  }
+  cut : text ≡ ended (take count column) ++ (decimal part ++ get_or behind 0 0 ∷ rest)
+  cut =
+      e
+      ∙ ap (λ (t : Text). ended (take count column) ++ t) (p ∙ ap (λ (t : Text). decimal part ++ t) (byte-front behind h))
 
-  pub listing-stop : {stop : ℕ} → stop ≡ get_or text end 0 → 0 < stop
-      → Stands (list_text (take (count + 1) (set after count part)) ++ stop ∷ []) text at (end + 1)
-  listing-stop e h =
-      rw (add-one, take-suc-set after count part more, list-ended (take count after) part)
-      (stands-then (stands-then l.stands read) (stands-byte e h))
+  listed : take (count + 1) (set column count part) ≡ take count column ++ part ∷ []
+  listed = rw add-one (take-suc-set column count part more)
 
-pub no-list : {text : Text} {at stop : ℕ} {r : ListAt} {column : List ℕ} → r.formed ≡ false
-    → ListStands text at stop r column
-no-list f = record { inside = λ b. absurd (false≢true (sym f ∙ b)); stands = λ b. absurd (false≢true (sym f ∙ b)) }
-
-pub word_stands : (word_of : Parts → ℕ) (large : ℕ) → 0 <? large ≡ true
-    → {text : Text} {at stop : ℕ} {r : ListAt} {column : List ℕ} → ListStands text at stop r column → r.formed ≡ true
-    → {a : WordAnswer}
-    → a ≡ worded (list_checks degree_limit large (take r.count column)) (word_of (take r.count column))
-    → {f : Bool} → a.refused ≡ 0
-    → WordStands word_of stop text at (record { formed = f; word = a.word; end = r.end })
-word_stands word_of large some {r = r} {column = column} l b e z =
-    let given = word-within word_of large some (take r.count column) e z in
-    record { parts = take r.count column; within = given.0; stands = l.stands b; word = given.1 }
+  -- the last part and the byte that stops
+  pub list-stops : {stop : ℕ} → get_or behind 0 0 ≡ stop
+      → text ≡ (list_text (take (count + 1) (set column count part)) ++ stop ∷ []) ++ rest
+  list-stops b =
+      let whole = rw b at cut in
+      rw (listed, list-ended (take count column) part) (whole ∙ simp append_assoc)
 
 -- ---- a line
-first-line : {t text : Text} {at end : ℕ} → Stands t text at end → Line t → first_line (drop at text) ≡ t
-first-line {t} {text} {at} {end} s l =
-    let whole = s.whole ∙ ap (λ (u : Text). u ++ drop end text) l.whole
-    ∙ append_assoc l.body (ascii "\n") (drop end text) in
-    rw (whole, line_first l.body (drop end text) l.plain) (sym l.whole)
+first-line-is : {t text : Text} (rest : Text) → text ≡ t ++ rest → Line t → first_line text ≡ t
+first-line-is {t} {text} rest e l =
+    let whole = e ∙ ap (λ (u : Text). u ++ rest) l.whole ∙ append_assoc l.body (ascii "\n") rest in
+    rw (whole, line_first l.body rest l.plain) (sym l.whole)
 
-regrouped : (name sign between shape class end : Text)
-    → name ++ sign ++ between ++ (shape ++ between) ++ (class ++ end)
-    ≡ name ++ (sign ++ between ++ shape ++ between ++ class) ++ end
-regrouped name sign between shape class end = simp append_assoc
+regrouped : (name sign between shape class end rest : Text)
+    → (name ++ sign ++ between) ++ ((shape ++ between) ++ ((class ++ end) ++ rest))
+    ≡ (name ++ (sign ++ between ++ shape ++ between ++ class) ++ end) ++ rest
+regrouped name sign between shape class end rest = simp append_assoc
 
 small : degree_limit < width
 small = omega arith
 
-module _ {text : Text} {at : ℕ} (inside : at ≤ length text) (minus : Bool)
-    (front : Stands (ascii "line=" ++ sign_text minus ++ ascii ";") text at (at + 7)) {s c : WordAt}
-    (shape : WordStands shape_word 59 text (at + 7) s) (class : WordStands class_word 10 text s.end c) where
+module _ {text first second rest : Text} {s c : ℕ} (minus : Bool)
+    (front : text ≡ (ascii "line=" ++ sign_text minus ++ ascii ";") ++ first)
+    (shape : WordRead shape_word 59 first s second) (class : WordRead class_word 10 second c rest) where
   abbrev line : Text
   line = waiting_text minus shape.parts class.parts
 
-  whole : Stands line text at c.end
+  whole : text ≡ line ++ rest
   unfolding weighted_text
   whole =
-      rw (← regrouped (ascii "line=") (sign_text minus) (ascii ";") (list_text shape.parts) (list_text class.parts)
-      (ascii "\n"))
-      (stands-then (stands-then front shape.stands) class.stands)
+      front
+      ∙ ap (λ (t : Text). (ascii "line=" ++ sign_text minus ++ ascii ";") ++ t)
+      (shape.stands ∙ ap (λ (t : Text). (list_text shape.parts ++ 59 ∷ []) ++ t) class.stands)
+      ∙ regrouped (ascii "line=") (sign_text minus) (ascii ";") (list_text shape.parts) (list_text class.parts)
+      (ascii "\n") rest
 
   abbrev weight : ℤ
   weight = signed minus (pos 1)
@@ -202,30 +149,13 @@ module _ {text : Text} {at : ℕ} (inside : at ≤ length text) (minus : Bool)
         (waiting-same degree_limit small shape.parts class.parts i j plain-faithful weight
         (abs-signed minus (pos 1)))
 
-  pub line-stands : {word : ℕ} → word ≡ word_of (plain minus (s.word % 2 ^ 31) c.word)
-      → LineStands text at (record { formed = true; word = word; end = c.end })
+  pub line-stands : {word : ℕ} → word ≡ word_of (plain minus (s % 2 ^ 31) c) → LineRead text word rest
   line-stands w =
-      let first = first-line whole its-line in
+      let first = first-line-is rest whole its-line in
       let i = shape.within in
       let j = class.within in
-      let cut = ap length whole.whole in
       record {
         formed = rw first (signed-formed i j);
-        word =
-            w
-            ∙ rw (
-              first,
-              signed_same i j,
-              shape.word,
-              class.word,
-              shape-kept shape.parts,
-            ) refl;
-        ends = rw first (omega (
-          arith,
-          whole.fits,
-          cut,
-          length-append line (drop c.end text),
-          length-drop at text,
-          length-drop c.end text,
-        ));
+        word_is = w ∙ rw (first, signed_same i j, shape.word_is, class.word_is, shape-kept shape.parts) refl;
+        behind = rw (first, whole) (sym (drop_at line rest (length line) refl));
       }

@@ -1,6 +1,6 @@
 -- A waiting line that is read off a line of text: where its semicolons cut it, and what is told by comparing.
 --   Cuts t first start second last   the places at which the sign's, the shape's and the class's text start and end
-use Rattle.std.specs.Prelude.{◌&&◌, ◌∷◌, ◌+◌, ◌-◌, ◌%◌, ◌^◌}
+use Rattle.std.specs.Prelude.{Some, ◌&&◌, ◌∷◌, ◌+◌, ◌-◌, ◌%◌, ◌^◌}
 use mathlib.Core.Path.{◌≡◌, refl, sym, ◌∙◌, ap, subst}
 use mathlib.Core.Bool.{false≢true}
 use Prim.Native.Nat.{◌≤◌, ◌<◌, min}
@@ -9,7 +9,7 @@ use native.Mathlib.Nat.{lt_of_not-le}
 use native.Mathlib.Omega.{arith}
 use lib.ListN.{length-drop}
 use lib.Seq.{drop-drop, drop-length, take_all, length-take-le}
-use Rattle.theory.specs.Basics.{Bool, true, false, cond, List, [], ℕ, suc, length, take}
+use Rattle.theory.specs.Basics.{Bool, true, false, cond, [], ℕ, suc, length, take}
 use Rattle.theory.specs.Basics.{drop, ◌=?◌}
 use Rattle.theory.specs.Basics.{◌<?◌}
 use Rattle.theory.proofs.Basics.Keep.{same_test}
@@ -28,8 +28,6 @@ use Rattle.pages.specs.Line.{Line}
 use Rattle.pages.specs.Page.{line_of, word_of, plain}
 use Rattle.pages.specs.Page.Words.{line_read}
 use Rattle.pages.specs.Lawful.Plain.{plain-lawful}
-use Rattle.sessiontext.specs.declared.partitions.PartsRead.{PartsRead}
-use Rattle.sessiontext.specs.declared.waiting.LineRead.{LineRead}
 use Rattle.sessiontext.specs.SessionText.{Form, plain_form, line_text_by, line_text}
 use Rattle.sessiontext.specs.SessionText.Faithful.{Faithful}
 use Rattle.sessiontext.specs.SessionText.Faithful.Plain.{plain-faithful}
@@ -39,8 +37,10 @@ use Rattle.sessiontext.specs.Reading.{in_limit, minus_in, shape_in, class_in, we
 use Rattle.sessiontext.specs.Reading.{is_waiting, line_in}
 use Rattle.sessiontext.specs.Reading.Forms.{InLimit, in-limit, limit-in, is-waiting, waiting-is}
 use Rattle.sessiontext.specs.Reading.Exact.{told_text, told-storable, told-written}
-use Rattle.sessiontext.specs.Private.Read.{ReadParts, ReadLine, ReadWaiting}
-use Rattle.sessiontext.proofs.NumberLines.{Compared}
+use Rattle.text.specs.Wrote.{Wrote}
+use Rattle.sessiontext.specs.Private.Read.{ReadLine}
+use Rattle.sessiontext.proofs.Own.{Own, own}
+use Rattle.sessiontext.proofs.Told.{Compared}
 use Rattle.sessiontext.proofs.Settled.{found-minus}
 
 small : degree_limit < width
@@ -115,19 +115,22 @@ shape-kept ps =
     let small : shape_word ps < 2 ^ 30 = (good-shape (shape_word ps) (rows-good ps)).below in
     omega arith
 
-module _ {t : Text} {rows cycles : List ℕ} {r q : PartsRead} (shape : ReadParts shape_word (before 59 (behind 59 t)) r rows)
-    (class : ReadParts class_word (behind 59 (behind 59 t)) q cycles) where
-  pub line_word : {minus formed : Bool} {word : ℕ} → minus ≡ minus_in t → formed ≡ (r.formed && q.formed)
-      → word ≡ word_of (plain minus (r.word % 2 ^ 31) q.word)
-      → ReadLine t (record { formed = formed; word = word })
+module _ (t : Text) where
+  abbrev pub limits : Bool
+  limits = in_limit degree_limit (shape_in t) && in_limit degree_limit (class_in t)
+
+  pub no-shape : in_limit degree_limit (shape_in t) ≡ false → limits ≡ false
+  no-shape e = rw e refl
+
+  pub no-class : in_limit degree_limit (shape_in t) ≡ true → in_limit degree_limit (class_in t) ≡ false → limits ≡ false
+  no-class s e = rw (s, e) refl
+
+  pub line_word : {minus : Bool} {shape class word : ℕ} → minus ≡ minus_in t
+      → in_limit degree_limit (shape_in t) ≡ true → shape ≡ shape_word (shape_in t)
+      → in_limit degree_limit (class_in t) ≡ true → class ≡ class_word (class_in t)
+      → word ≡ word_of (plain minus (shape % 2 ^ 31) class) → ReadLine t (Some word)
   unfolding line_by
-  line_word {minus} {formed} {word} m f w =
-      let first : formed ≡ true → r.formed ≡ true = λ e. (both r.formed q.formed (sym f ∙ e)).0 in
-      let second : formed ≡ true → q.formed ≡ true = λ e. (both r.formed q.formed (sym f ∙ e)).1 in
-      record {
-        formed = f ∙ rw (shape.formed, class.formed) refl;
-        word = λ e. w ∙ rw (shape.word (first e), shape-kept (shape_in t), class.word (second e), m) refl;
-      }
+  line_word m s e c f w = (rw (s, c) refl, w ∙ rw (e, shape-kept (shape_in t), f, m) refl)
 
 -- ---- comparing with what is written of the line that was read
 module _ {f : Form} (fa : Faithful f) (t : Text) (fits : f.fits (weight_by f t) ≡ true)
@@ -146,40 +149,34 @@ both-limits t e =
     let l = both (in_limit degree_limit (shape_in t)) (in_limit degree_limit (class_in t)) e in
     (in-limit degree_limit (shape_in t) l.0, in-limit degree_limit (class_in t) l.1)
 
-module _ {t : Text} {r : LineRead} (read : ReadLine t r) where
-  pub its-limits : r.formed ≡ true → InLimit degree_limit (shape_in t) × InLimit degree_limit (class_in t)
-  its-limits f = both-limits t (sym read.formed ∙ f)
+module _ (t : Text) where
+  pub waiting-unread : limits t ≡ false → is_waiting degree_limit t ≡ false
+  waiting-unread e =
+      same_test (is_waiting degree_limit t) false
+      (λ b. let w = is-waiting plain_form degree_limit t b in
+      absurd (false≢true (sym e ∙ rw (limit-in w.shape, limit-in w.class) refl)))
+      (λ b. absurd (false≢true b))
 
-  pub waiting-unread : r.formed ≡ false → ReadWaiting t (record { formed = false; word = 0 })
-  waiting-unread e = record {
-    formed = same_test false (is_waiting degree_limit t) (λ b. absurd (false≢true b))
-        (λ b. let w = is-waiting plain_form degree_limit t b in
-        absurd (false≢true (sym e ∙ read.formed ∙ rw (limit-in w.shape, limit-in w.class) refl)));
-    word = λ b. absurd (false≢true b);
-  }
+  module _ (f : limits t ≡ true) where
+    pub waiting-told : {b : Bool} → Compared b t (line_text (line_in t)) → b ≡ is_waiting degree_limit t
+    waiting-told c = let l = both-limits t f in compared plain-faithful t refl l.0 l.1 c
 
-  module _ (f : r.formed ≡ true) where
-    its-line : line_of r.word ≡ line_in t
-    unfolding plain-faithful plain-lawful
-    its-line =
-        ap line_of (read.word f)
-        ∙ line_read (line_in t)
-        (told-written degree_limit small plain-faithful t refl (its-limits f).0 (its-limits f).1)
+    module _ {word : ℕ} (e : word ≡ word_of (line_in t)) where
+      its-line : line_of word ≡ line_in t
+      unfolding plain-faithful plain-lawful
+      its-line =
+          let l = both-limits t f in
+          ap line_of e
+          ∙ line_read (line_in t) (told-written degree_limit small plain-faithful t refl l.0 l.1)
 
-    pub its-text : line_text (line_of r.word) ≡ line_text (line_in t)
-    its-text = ap (λ (l : Line). line_text l) its-line
+      pub its-storable : StorableLine degree_limit (line_of word)
+      its-storable =
+          let l = both-limits t f in
+          subst (λ (l : Line). StorableLine degree_limit l) (sym its-line)
+          (told-storable degree_limit small plain-faithful t refl l.0 l.1)
 
-    pub its-storable : StorableLine degree_limit (line_of r.word)
-    its-storable =
-        subst (λ (l : Line). StorableLine degree_limit l) (sym its-line)
-        (told-storable degree_limit small plain-faithful t refl (its-limits f).0 (its-limits f).1)
-
-    pub waiting-fits : length (line_text (line_of r.word)) ≤ line_room
-    waiting-fits = plain-line-short (line_of r.word) its-storable
-
-    pub waiting-read : {b : Bool} → Compared b t (line_text (line_in t))
-        → ReadWaiting t (record { formed = b; word = r.word })
-    waiting-read c = record {
-      formed = compared plain-faithful t refl (its-limits f).0 (its-limits f).1 c;
-      word = λ e. read.word f;
-    }
+      pub waiting-own : {before bytes : Text} {end : ℕ} → Wrote (line_text (line_of word)) 0 before end bytes
+          → length before ≡ line_room → Own (line_text (line_in t)) end bytes
+      waiting-own w room =
+          let its-text = ap (λ (l : Line). line_text l) its-line in
+          rw its-text at (own w (omega (arith, plain-line-short (line_of word) its-storable)) (omega arith))

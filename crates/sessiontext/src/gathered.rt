@@ -3,22 +3,21 @@
 ghost use Rattle.std.specs.Prelude.{◌≡◌, ◌≤◌};
 ghost use Rattle.theory.specs.Basics.{length, drop, ◌≤?◌};
 ghost use Rattle.theory.specs.Limits.{degree_limit, page_limit};
-ghost use Rattle.words.specs.Answers.{Outcome};
+ghost use Rattle.words.specs.Answers.{Outcome, count_told};
 ghost use Rattle.textreading.specs.Reading.{lines_of};
-ghost use Rattle.pages.specs.Page.{slip_of};
 ghost use Rattle.pages.specs.Mode.{alongside, gathered_mode};
 ghost use Rattle.pages.specs.Sound.{sound_with};
 ghost use Rattle.sessiontext.specs.SessionText.{gathered_form, session_text_by};
 ghost use Rattle.sessiontext.specs.SessionText.Faithful.Gathered.{gathered-faithful};
 ghost use Rattle.sessiontext.specs.SessionText.Storable.{StorableBy};
-ghost use Rattle.sessiontext.specs.Calls.{save_by, load_by};
+ghost use Rattle.sessiontext.specs.Calls.{loaded_told, save_by, load_by};
 ghost use Rattle.sessiontext.specs.Private.Weighted.{ReadFronted, AllFormed, read_as};
 
 use super::coefficients::{first_fault, put};
-use super::reading::HeadRead;
-use super::{Loaded, reading, unloaded, weighted};
+use super::reading::FirstLines;
+use super::{Unloaded, not_loaded, reading, weighted};
 use pages::{GATHERED, PAGE_LIMIT, Slip, gathering};
-use words::CountAnswer;
+use words::Refusal;
 
 // How many bytes are enough for the first seven lines of a text.
 const HEAD_ROOM: usize = 270;
@@ -44,67 +43,41 @@ fn has_room(slip: Slip, lines: &[u64], coefficients: &[i64], room: usize) -> boo
 
 // The text of a session, at the front of lent bytes; its length is the answer, and the other bytes stay. Refuses 6, 21,
 // 7, 17.
-pub fn save(slip: Slip, page: &[u64], coefficients: &[i64], text: &mut [u8]) -> CountAnswer
+pub fn save(
+    slip: Slip,
+    page: &[u64],
+    coefficients: &[i64],
+    text: &mut [u8],
+) -> Result<usize, Refusal>
     ensures { Outcome (save_by gathered_form degree_limit slip (page.now, coefficients.now)
-        text.old) result text.new }
+        text.old) (count_told result) text.new }
 {
-    let refused = gathering::refusal(slip, page, coefficients);
-    if refused != 0 {
-        return CountAnswer { refused, count: 0 };
-    }
+    gathering::refusal(slip, page, coefficients)?;
     let lines = slip.lines;
     if !has_room(slip, &page[..lines], &coefficients[..lines], text.len()) {
-        return CountAnswer {
-            refused: 17,
-            count: 0,
-        };
+        return Err(Refusal::BufferTooShort);
     }
-    CountAnswer {
-        refused: 0,
-        count: weighted::session(slip, &page[..lines], &coefficients[..lines], text, 0),
-    }
+    Ok(weighted::session(slip, &page[..lines], &coefficients[..lines], text, 0))
 }
 
-// A slip of the gathered mode.
-fn in_mode(slip: Slip) -> Slip
-    ensures { result ≡ slip_of slip.shape slip.class slip.settled slip.lines slip.steps 1 }
-{
-    Slip {
-        shape: slip.shape,
-        class: slip.class,
-        settled: slip.settled,
-        lines: slip.lines,
-        steps: slip.steps,
-        mode: GATHERED,
-    }
-}
-
-// The first seven lines: which of them is at fault, and the slip, and where they end. The six behind the mode's are
-// read as those of a plain session.
-fn head(text: &[u8]) -> HeadRead
+// The first seven lines, or the first of them that is at fault. The six behind the mode's are read as those of a plain
+// session.
+fn head(text: &[u8]) -> Result<FirstLines, usize>
     ensures { ReadFronted text.now result }
 {
     let front = textreading::line_end(text, 0);
-    let plain = reading::head(&text[front..]);
-    let slip = in_mode(plain.slip);
     if !check::same(&text[..front], b"mode=gathered\n") {
-        return HeadRead {
-            fault: 1,
-            slip,
-            end: 0,
-        };
+        return Err(1);
     }
-    if plain.fault != 0 {
-        return HeadRead {
-            fault: plain.fault + 1,
-            slip,
-            end: 0,
-        };
-    }
-    HeadRead {
-        fault: 0,
-        slip,
-        end: front + plain.end,
+    match reading::head(&text[front..]) {
+        Ok(plain) => Ok(FirstLines {
+            slip: Slip {
+                mode: GATHERED,
+                ..plain.slip
+            },
+            end: front + plain.end,
+        }),
+        Err(line) => Err(line + 1),
     }
 }
 
@@ -114,9 +87,9 @@ fn sound_on(text: &[u8], start: usize, slip: Slip, page: &mut [u64], column: &mu
     requires lines_in_bounds { (slip.lines ≤ length page.old) × (length page.old ≡ length column.old) }
     ensures { result ≡ sound_with gathered_mode degree_limit slip (read_as (lines_of (drop start text.now))) }
 {
-    put(text, start, page, column);
+    put(&text[start..], page, column);
     let lines = slip.lines;
-    gathering::refusal(slip, &page[..lines], &column[..lines]) == 0
+    gathering::refusal(slip, &page[..lines], &column[..lines]).is_ok()
 }
 
 // The same on local arrays.
@@ -136,38 +109,33 @@ fn sound(text: &[u8], start: usize, slip: Slip) -> bool
 
 // The session whose text this is: its slip, its lines on page and coefficients and zeros after them. All is judged
 // before the first word is written. Refuses 6, 21, 16 with the first line at fault, 10, 7.
-pub fn load(text: &[u8], page: &mut [u64], coefficients: &mut [i64]) -> Loaded
+pub fn load(text: &[u8], page: &mut [u64], coefficients: &mut [i64]) -> Result<Slip, Unloaded>
     ensures { Outcome (load_by gathered_form degree_limit text.now
-        (page.old, coefficients.old)) result (page.new, coefficients.new) }
+        (page.old, coefficients.old)) (loaded_told result) (page.new, coefficients.new) }
 {
     if PAGE_LIMIT < page.len() {
-        return unloaded(6, 0);
+        return Err(not_loaded(Refusal::PageTooLong, 0));
     }
     if page.len() != coefficients.len() {
-        return unloaded(21, 0);
+        return Err(not_loaded(Refusal::BadCoefficients, 0));
     }
-    let head = head(text);
-    if head.fault != 0 {
-        return unloaded(16, head.fault);
-    }
+    let head = match head(text) {
+        Ok(head) => head,
+        Err(fault) => return Err(not_loaded(Refusal::BadText, fault)),
+    };
     let slip = head.slip;
     let start = head.end;
-    let fault = first_fault(text, start);
-    if fault != 0 {
-        return unloaded(16, fault);
+    if let Some(line) = first_fault(&text[start..]) {
+        return Err(not_loaded(Refusal::BadText, line));
     }
     if page.len() < slip.lines {
-        return unloaded(10, 0);
+        return Err(not_loaded(Refusal::PageFull, 0));
     }
     if !sound(text, start, slip) {
-        return unloaded(7, 0);
+        return Err(not_loaded(Refusal::NotSound, 0));
     }
-    put(text, start, page, coefficients);
+    put(&text[start..], page, coefficients);
     clearing::clear(page, slip.lines);
     clearing::clear(coefficients, slip.lines);
-    Loaded {
-        refused: 0,
-        line: 0,
-        slip,
-    }
+    Ok(slip)
 }

@@ -65,10 +65,8 @@ pub fn all(lines: &[u64]) -> usize
     ensures { result ≡ length (joined line_text (map line_of lines.now)) }
 {
     let mut long = 0;
-    let mut i = 0;
-    while i < lines.len() {
-        long += line(lines[i]);
-        i += 1;
+    for word in lines {
+        long += line(*word);
     }
     long
 }

@@ -6,14 +6,15 @@
 ghost use Rattle.std.specs.Prelude.{◌≡◌, ◌≤◌};
 ghost use Rattle.theory.specs.Basics.{length, map, ◌≤?◌};
 ghost use Rattle.theory.specs.Limits.{degree_limit, page_limit};
-ghost use Rattle.words.specs.Answers.{Outcome};
+ghost use Rattle.std.specs.declared.result.Result.TheVariants.{Err};
+ghost use Rattle.words.specs.Answers.{Outcome, count_told, number_of};
 ghost use Rattle.pages.specs.Page.{line_of, blank};
 ghost use Rattle.sessiontext.specs.SessionText.{session_text};
 ghost use Rattle.sessiontext.specs.SessionText.Storable.{Storable};
-ghost use Rattle.sessiontext.specs.Calls.{loaded, save_into, load_into};
+ghost use Rattle.sessiontext.specs.Calls.{loaded, loaded_told, save_into, load_into};
 
 use pages::{BLANK, PAGE_LIMIT, Slip, soundness};
-use words::CountAnswer;
+use words::Refusal;
 
 mod coefficients;
 pub mod gathered;
@@ -29,10 +30,11 @@ mod writing;
 // How many bytes are enough for the first six lines of a text.
 const HEAD_ROOM: usize = 256;
 
-// A slip with the refusal number beside it and, where that is 16, the text's line that is at fault, from 1.
+// Why a load is refused, where that is 16 the text's line that is at fault, from 1, and the blank slip that is handed
+// back.
 #[derive(Clone, Copy, PartialEq, Eq)]
-pub struct Loaded {
-    pub refused: u8,
+pub struct Unloaded {
+    pub refusal: Refusal,
     pub line: usize,
     pub slip: Slip,
 }
@@ -53,33 +55,24 @@ fn has_room(slip: Slip, lines: &[u64], room: usize) -> bool
 
 // The text of a session, at the front of lent bytes; its length is the answer, and the other bytes stay. Refuses 6, 7,
 // 17.
-pub fn save(slip: Slip, page: &[u64], text: &mut [u8]) -> CountAnswer
+pub fn save(slip: Slip, page: &[u64], text: &mut [u8]) -> Result<usize, Refusal>
     ensures { Outcome (save_into degree_limit slip page.now text.old)
-        result text.new }
+        (count_told result) text.new }
 {
-    let refused = soundness::refusal(slip, page);
-    if refused != 0 {
-        return CountAnswer { refused, count: 0 };
-    }
+    soundness::refusal(slip, page)?;
     let lines = slip.lines;
     if !has_room(slip, &page[..lines], text.len()) {
-        return CountAnswer {
-            refused: 17,
-            count: 0,
-        };
+        return Err(Refusal::BufferTooShort);
     }
-    CountAnswer {
-        refused: 0,
-        count: writing::session(slip, &page[..lines], text, 0),
-    }
+    Ok(writing::session(slip, &page[..lines], text, 0))
 }
 
 // A refused load.
-fn unloaded(number: u8, line: usize) -> Loaded
-    ensures { result ≡ loaded number line blank }
+fn not_loaded(refusal: Refusal, line: usize) -> Unloaded
+    ensures { loaded_told (Err result) ≡ loaded (number_of refusal) line blank }
 {
-    Loaded {
-        refused: number,
+    Unloaded {
+        refusal,
         line,
         slip: BLANK,
     }
@@ -87,33 +80,29 @@ fn unloaded(number: u8, line: usize) -> Loaded
 
 // The session whose text this is: its slip, its lines on the page and zeros after them. The text is read twice, so that
 // the page is written only once all is judged. Refuses 6, 16 with the first line at fault, 10, 7.
-pub fn load(text: &[u8], page: &mut [u64]) -> Loaded
-    ensures { Outcome (load_into degree_limit text.now page.old) result page.new }
+pub fn load(text: &[u8], page: &mut [u64]) -> Result<Slip, Unloaded>
+    ensures { Outcome (load_into degree_limit text.now page.old) (loaded_told result) page.new }
 {
     if PAGE_LIMIT < page.len() {
-        return unloaded(6, 0);
+        return Err(not_loaded(Refusal::PageTooLong, 0));
     }
-    let head = reading::head(text);
-    if head.fault != 0 {
-        return unloaded(16, head.fault);
-    }
+    let head = match reading::head(text) {
+        Ok(head) => head,
+        Err(fault) => return Err(not_loaded(Refusal::BadText, fault)),
+    };
     let slip = head.slip;
-    let start = head.end;
-    let read = waiting::judge(text, start, soundness::budget(slip));
-    if read.fault != 0 {
-        return unloaded(16, read.fault);
-    }
+    let lines = &text[head.end..];
+    let enough = match waiting::judge(lines, soundness::budget(slip)) {
+        Ok(enough) => enough,
+        Err(line) => return Err(not_loaded(Refusal::BadText, line)),
+    };
     if page.len() < slip.lines {
-        return unloaded(10, 0);
+        return Err(not_loaded(Refusal::PageFull, 0));
     }
-    if !read.enough {
-        return unloaded(7, 0);
+    if !enough {
+        return Err(not_loaded(Refusal::NotSound, 0));
     }
-    waiting::put(text, start, page);
+    waiting::put(lines, page);
     clearing::clear(page, slip.lines);
-    Loaded {
-        refused: 0,
-        line: 0,
-        slip,
-    }
+    Ok(slip)
 }

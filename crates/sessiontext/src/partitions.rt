@@ -1,126 +1,100 @@
-// Partitions that stand in a text: what is read, and whether it is a partition within the limit; whether a line of a name
-// and a partition is of its form, by writing out what was read and comparing.
-ghost use Rattle.std.specs.Prelude.{◌≡◌};
+// Partitions that stand in a text: the word of one, if it is a partition within the limit; and lines of a name and a
+// partition, if they are of their form, by writing out what was read and comparing.
+ghost use Rattle.std.specs.Prelude.{◌<◌, ◌≡◌, ◌≤◌, MatchOption, map, ℕ};
 ghost use Rattle.theory.specs.Basics.{length};
+ghost use Rattle.theory.specs.Partition.{Parts};
 ghost use Rattle.theory.specs.ShapeWord.{shape_word};
 ghost use Rattle.theory.specs.ClassWord.{class_word};
-ghost use Rattle.sessiontext.specs.Private.Read.{ReadParts, no_parts, ReadShape, ReadClass};
+ghost use Rattle.theory.specs.Limits.{degree_limit};
+ghost use Rattle.textreading.specs.Reading.{list_in, small};
+ghost use Rattle.sessiontext.specs.Reading.{in_limit, is_list};
+ghost use Rattle.sessiontext.specs.Private.Read.{Tells, ReadShape, ReadClass};
 
 use text::fields;
 
-// A part list in a text: whether it is a partition within the limit, and then how many parts it has, and its word.
-#[derive(Clone, Copy)]
-pub struct PartsRead {
-    pub formed: bool,
-    pub count: usize,
-    pub word: u32,
+// How a partition is put down as a word.
+pub trait Notation {
+    ghost word_of: { Parts → ℕ };
+
+    // The word of a part list, if it is a partition within the limit.
+    fn word(parts: &[u8]) -> Option<u32>
+        ensures { Tells (in_limit degree_limit parts.now) (word_of parts.now) result };
 }
 
+// As the word of a shape.
+pub struct Shapes;
+
+impl Notation for Shapes {
+    ghost word_of = { shape_word };
+
+    fn word(parts: &[u8]) -> Option<u32> {
+        words::shapes::word(parts).ok()
+    }
+}
+
+// As the word of a class.
+pub struct Classes;
+
+impl Notation for Classes {
+    ghost word_of = { class_word };
+
+    fn word(parts: &[u8]) -> Option<u32> {
+        words::classes::word(parts).ok()
+    }
+}
+
+// A shape's word, and its degree.
 #[derive(Clone, Copy)]
-pub struct ShapeRead {
-    pub formed: bool,
+pub struct ShapeAsked {
     pub word: u32,
     pub degree: u64,
 }
 
-#[derive(Clone, Copy)]
-pub struct ClassRead {
-    pub formed: bool,
-    pub word: u32,
-}
-
-// A text in which no partition within the limit stands.
-fn unread() -> PartsRead
-    ensures { result ≡ no_parts }
-{
-    PartsRead {
-        formed: false,
-        count: 0,
-        word: 0,
-    }
-}
-
-// The parts of a shape that stand in a text, at the front of a column.
-pub fn shape_in(text: &[u8], column: &mut [u8]) -> PartsRead
-    requires { length column.old ≡ 16 }
-    ensures { ReadParts shape_word text.now result column.new }
+// The numbers of a list that stand in a text, at the front of a column, if it has room for them.
+fn parts_in<'a>(text: &[u8], column: &'a mut [u8; 16]) -> Option<&'a [u8]>
+    ensures { MatchOption result (16 < length (list_in text.now)) (λ parts.
+        parts.now ≡ map small (list_in text.now)) }
 {
     let count = textreading::list_in(text, column);
-    if 16 < count {
-        return unread();
-    }
-    let read = words::shapes::word(&column[..count]);
-    if read.refused != 0 {
-        return unread();
-    }
-    PartsRead {
-        formed: true,
-        count,
-        word: read.word,
-    }
+    column.get(..count)
 }
 
-// The parts of a class that stand in a text, at the front of a column.
-pub fn class_in(text: &[u8], column: &mut [u8]) -> PartsRead
-    requires { length column.old ≡ 16 }
-    ensures { ReadParts class_word text.now result column.new }
+// The word of the partition that stands in a text.
+pub fn word_in<N: Notation>(text: &[u8]) -> Option<u32>
+    ensures { Tells (in_limit degree_limit (list_in text.now)) (N.word_of (list_in text.now)) result }
 {
-    let count = textreading::list_in(text, column);
-    if 16 < count {
-        return unread();
-    }
-    let read = words::classes::word(&column[..count]);
-    if read.refused != 0 {
-        return unread();
-    }
-    PartsRead {
-        formed: true,
-        count,
-        word: read.word,
-    }
+    let mut column = [0u8; 16];
+    N::word(parts_in(text, &mut column)?)
+}
+
+// The word of the partition on a line of a name and its parts.
+fn listed<N: Notation>(name: &[u8], line: &[u8]) -> Option<u32>
+    requires { length name.now ≤ 8 }
+    ensures { Tells (is_list degree_limit name.now line.now) (N.word_of (list_in line.now)) result }
+{
+    let mut column = [0u8; 16];
+    let parts = parts_in(line, &mut column)?;
+    let word = N::word(parts)?;
+    let mut own = [0u8; 64];
+    let end = fields::line(name, parts, &mut own, 0);
+    check::same(line, &own[..end]).then_some(word)
 }
 
 // The shape asked for, and its degree.
-pub fn shape(line: &[u8]) -> ShapeRead
+pub fn shape(line: &[u8]) -> Option<ShapeAsked>
     ensures { ReadShape line.now result }
 {
-    let mut parts = [0u8; 16];
-    let read = shape_in(line, &mut parts);
-    if !read.formed {
-        return ShapeRead {
-            formed: false,
-            word: 0,
-            degree: 0,
-        };
-    }
-    let count = read.count;
-    let mut own = [0u8; 64];
-    let end = fields::line(b"shape=", &parts[..count], &mut own, 0);
-    let degree = words::shapes::degree(read.word);
-    ShapeRead {
-        formed: check::same(line, &own[..end]),
-        word: read.word,
-        degree: degree.number as u64,
-    }
+    let word = listed::<Shapes>(b"shape=", line)?;
+    let degree = words::shapes::degree(word).unwrap();
+    Some(ShapeAsked {
+        word,
+        degree: degree as u64,
+    })
 }
 
 // The class asked for.
-pub fn class(line: &[u8]) -> ClassRead
+pub fn class(line: &[u8]) -> Option<u32>
     ensures { ReadClass line.now result }
 {
-    let mut parts = [0u8; 16];
-    let read = class_in(line, &mut parts);
-    if !read.formed {
-        return ClassRead {
-            formed: false,
-            word: 0,
-        };
-    }
-    let count = read.count;
-    let mut own = [0u8; 64];
-    let end = fields::line(b"class=", &parts[..count], &mut own, 0);
-    ClassRead {
-        formed: check::same(line, &own[..end]),
-        word: read.word,
-    }
+    listed::<Classes>(b"class=", line)
 }

@@ -1,19 +1,16 @@
 // The first six lines of a text.
 ghost use Rattle.std.specs.Prelude.{◌≡◌};
 ghost use Rattle.theory.specs.Basics.{same};
-ghost use Rattle.theory.specs.Refusals.{first_of};
 ghost use Rattle.text.specs.Text.{decimal, field};
-ghost use Rattle.sessiontext.specs.Private.Read.{read_checks, ReadHead};
+ghost use Rattle.sessiontext.specs.Private.Read.{ReadHead};
 
-use super::numbers::NumberRead;
-use super::partitions::ShapeRead;
 use super::{numbers, partitions};
 use pages::{PLAIN, Slip};
 use text::fields;
 
+// What the first lines of a text tell: the slip, and where they end.
 #[derive(Clone, Copy)]
-pub struct HeadRead {
-    pub fault: usize,
+pub struct FirstLines {
     pub slip: Slip,
     pub end: usize,
 }
@@ -27,43 +24,8 @@ fn counts(line: &[u8], count: usize) -> bool
     check::same(line, &own[..end])
 }
 
-// The first of the first six lines that is at fault, or 0, as what was read off them tells.
-fn first_fault(
-    degree: NumberRead,
-    shape: ShapeRead,
-    class: bool,
-    steps: bool,
-    settled: bool,
-    count: bool,
-) -> usize
-    ensures { result ≡ first_of (read_checks degree shape class steps settled count) }
-{
-    if !degree.formed {
-        return 1;
-    }
-    if !shape.formed {
-        return 2;
-    }
-    if degree.number != shape.degree {
-        return 1;
-    }
-    if !class {
-        return 3;
-    }
-    if !steps {
-        return 4;
-    }
-    if !settled {
-        return 5;
-    }
-    if !count {
-        return 6;
-    }
-    0
-}
-
-// The first six lines: which of them is at fault, and the slip, and where they end.
-pub fn head(text: &[u8]) -> HeadRead
+// The first six lines, or the first of them that is at fault. A degree that is not the shape's is the degree's fault.
+pub fn head(text: &[u8]) -> Result<FirstLines, usize>
     ensures { ReadHead text.now result }
 {
     let shape_at = textreading::line_end(text, 0);
@@ -72,30 +34,27 @@ pub fn head(text: &[u8]) -> HeadRead
     let settled_at = textreading::line_end(text, steps_at);
     let count_at = textreading::line_end(text, settled_at);
     let end = textreading::line_end(text, count_at);
-    let degree = numbers::number(b"degree=", &text[..shape_at]);
-    let shape = partitions::shape(&text[shape_at..class_at]);
-    let class = partitions::class(&text[class_at..steps_at]);
-    let steps = numbers::steps(&text[steps_at..settled_at]);
-    let settled = numbers::settled(&text[settled_at..count_at]);
-    let count = textreading::line_count(&text[end..]);
-    let counted = counts(&text[count_at..end], count);
-    HeadRead {
-        fault: first_fault(
-            degree,
-            shape,
-            class.formed,
-            steps.formed,
-            settled.formed,
-            counted,
-        ),
+    let degree = numbers::number(b"degree=", &text[..shape_at]).ok_or(1usize)?;
+    let shape = partitions::shape(&text[shape_at..class_at]).ok_or(2usize)?;
+    if degree != shape.degree {
+        return Err(1);
+    }
+    let class = partitions::class(&text[class_at..steps_at]).ok_or(3usize)?;
+    let steps = numbers::steps(&text[steps_at..settled_at]).ok_or(4usize)?;
+    let settled = numbers::settled(&text[settled_at..count_at]).ok_or(5usize)?;
+    let lines = textreading::line_count(&text[end..]);
+    if !counts(&text[count_at..end], lines) {
+        return Err(6);
+    }
+    Ok(FirstLines {
         slip: Slip {
             shape: shape.word,
-            class: class.word,
-            settled: settled.number,
-            lines: count,
-            steps: steps.number,
+            class,
+            settled,
+            lines,
+            steps,
             mode: PLAIN,
         },
         end,
-    }
+    })
 }

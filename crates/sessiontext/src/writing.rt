@@ -47,9 +47,9 @@ pub fn words_behind(line: u64, out: &mut [u8], at: usize) -> usize
         at out.old result out.new }
 {
     let mut shape = [0u8; 16];
-    let rows = words::shapes::parts(linewords::shape(line), &mut shape).count;
+    let rows = words::shapes::parts(linewords::shape(line), &mut shape).unwrap();
     let mut class = [0u8; 16];
-    let cycles = words::classes::parts(linewords::class(line), &mut class).count;
+    let cycles = words::classes::parts(linewords::class(line), &mut class).unwrap();
     behind(&shape[..rows], &class[..cycles], out, at)
 }
 
@@ -70,10 +70,8 @@ fn all(lines: &[u64], out: &mut [u8], at: usize) -> usize
         at out.old result out.new }
 {
     let mut end = at;
-    let mut i = 0;
-    while i < lines.len() {
-        end = line(lines[i], out, end);
-        i += 1;
+    for word in lines {
+        end = line(*word, out, end);
     }
     end
 }
@@ -83,7 +81,7 @@ fn shape(word: u32, out: &mut [u8], at: usize) -> usize
     ensures { Wrote (field "shape=" (list_text (shape_of word))) at out.old result out.new }
 {
     let mut parts = [0u8; 16];
-    let count = words::shapes::parts(word, &mut parts).count;
+    let count = words::shapes::parts(word, &mut parts).unwrap();
     fields::line(b"shape=", &parts[..count], out, at)
 }
 
@@ -92,7 +90,7 @@ fn class(word: u32, out: &mut [u8], at: usize) -> usize
     ensures { Wrote (field "class=" (list_text (class_of word))) at out.old result out.new }
 {
     let mut parts = [0u8; 16];
-    let count = words::classes::parts(word, &mut parts).count;
+    let count = words::classes::parts(word, &mut parts).unwrap();
     fields::line(b"class=", &parts[..count], out, at)
 }
 
@@ -102,8 +100,8 @@ fn degree(word: u32, out: &mut [u8], at: usize) -> usize
     ensures { Wrote (field "degree=" (decimal (degree_of (shape_of word))))
         at out.old result out.new }
 {
-    let degree = words::shapes::degree(word);
-    fields::line(b"degree=", degree.number as u64, out, at)
+    let degree = words::shapes::degree(word).unwrap();
+    fields::line(b"degree=", degree as u64, out, at)
 }
 
 // What was asked for.

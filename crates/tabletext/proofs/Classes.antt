@@ -26,10 +26,11 @@ use Rattle.theory.specs.Listing.Order.{UpTo}
 use Rattle.theory.proofs.Listing.Order.{partition-at}
 use Rattle.theory.proofs.Column.Laws.{column-length}
 use Rattle.theory.specs.Refusals.{first_of, class_checks}
-use Rattle.words.specs.Answers.{Outcome}
-use Rattle.words.specs.Answers.{CountAnswer}
-use Rattle.words.specs.Answers.{NumberAnswer}
-use Rattle.words.specs.Answers.{WordAnswer}
+use Rattle.std.specs.declared.result.Result.{Result}
+use Rattle.std.specs.declared.result.Result.TheVariants.{Ok}
+use Rattle.words.specs.declared.refusal.Refusal.{Refusal}
+use Rattle.words.specs.Answers.{Outcome, CountAnswer, word_told, number_told}
+use Rattle.words.proofs.Told.{word-told-once, number-told-once}
 use Rattle.words.specs.Calls.{class_parts_into, size_of_class}
 use Rattle.words.proofs.Factorials.{factorial-fits}
 use Rattle.words.proofs.Callers.{FrontGiven, front-given}
@@ -57,10 +58,15 @@ module _ (limit : ℕ) (fits : limit ≤ largest_limit) (n r : ℕ) (small : n �
       let f = factorial-fits (degree class) (omega (arith, known.whole)) in
       omega (arith, div-le_self (factorial (degree class)) (class_divisor class))
 
-  pub word-of-rank : (a : WordAnswer) → a ≡ class_at limit n r → a.word ≡ class_word class
+  -- as a call hands it on to another
+  pub size_handed : to_z w64 (of_z w64 (pos (class_size class))) ≡ pos (class_size class)
+  size_handed = to_z-of_z {w = w64} (sfits_of size_fits)
+
+  pub word-of-rank : (a : Result ℕ Refusal) → word_told a ≡ class_at limit n r → a ≡ Ok (class_word class)
   unfolding class_at
   word-of-rank a e =
-      ap (λ (x : WordAnswer). x.word) e ∙ rw (le-ltb limit n small, lt-leb (length (listing n)) r within) refl
+      word-told-once {s = Ok (class_word class)}
+      (e ∙ rw (le-ltb limit n small, lt-leb (length (listing n)) r within) refl)
 
   module _ (w : ℕ) (e : w ≡ class_word class) where
     pub parts-of-rank : (k : CountAnswer) (parts : List ℕ)
@@ -73,14 +79,11 @@ module _ (limit : ℕ) (fits : limit ≤ largest_limit) (n r : ℕ) (small : n �
         (λ z. rw (class-of-word held, length-replicate) room) k parts (rw e at o) passes in
         rw (class-of-word held) at front
 
-    -- as a call hands it on to another
-    pub size-of-rank : (a : NumberAnswer) → a ≡ size_of_class limit w
-        → to_z w64 (of_z w64 a.number) ≡ pos (class_size class)
+    pub size-of-rank : (a : Result ℤ Refusal) → number_told a ≡ size_of_class limit w
+        → a ≡ Ok (pos (class_size class))
     unfolding size_of_class
     size-of-rank a f =
-        let number : a.number ≡ pos (class_size class) =
-        ap (λ (x : NumberAnswer). x.number) f ∙ rw (e, passes, class-of-word held) refl in
-        rw number (to_z-of_z {w = w64} (sfits_of size_fits))
+        number-told-once {s = Ok (pos (class_size class))} (f ∙ rw (e, passes, class-of-word held) refl)
 
     pub column-of-rank : (most : ℕ) → length (listing n) ≤ most → (k : CountAnswer) (values : List ℤ)
         → Outcome (column_into limit w (replicate most (pos 0))) k values → FrontGiven (column class) k values

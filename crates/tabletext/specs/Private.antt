@@ -1,2 +1,2 @@
--- What only the code needs: definitions that the contracts of private functions cite. Nobody has to believe them.
+-- What only the code needs: laws of how its input is read. Nobody has to believe them.
 pub mod Reading

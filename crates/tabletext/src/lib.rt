@@ -17,10 +17,9 @@ pub const ROOM: usize = 1_048_576;
 pub fn answer(input: &[u8], out: &mut [u8; ROOM]) -> usize
     ensures { Outcome (chartable_into degree_limit input.now out.old) result out.new }
 {
-    let degree = reading::asked(input);
-    if degree == reading::NONE {
+    let Some(degree) = reading::asked(input) else {
         return text::fields::line(b"refused=", 13u64, out, 0);
-    }
+    };
     if words::LIMIT < degree {
         return text::fields::line(b"refused=", 12u64, out, 0);
     }

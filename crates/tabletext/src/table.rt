@@ -13,7 +13,7 @@ fn count(degree: u32) -> u32
     requires { degree ≤ degree_limit }
     ensures { result ≡ length (listing degree) }
 {
-    listing::section(degree).count as u32
+    listing::section(degree).unwrap().count as u32
 }
 
 // The lines of a class: its parts, its number of elements, its column.
@@ -32,21 +32,13 @@ fn class(degree: u32, rank: u32, out: &mut [u8], at: usize) -> usize
     requires rank_in_bounds { rank < length (listing degree) }
     ensures { Wrote (class_lines (get_or (listing degree) rank [])) at out.old result out.new }
 {
-    let class = listing::class_at(degree, rank);
+    let class = listing::class_at(degree, rank).unwrap();
     let mut parts = [0u8; words::LIMIT as usize];
-    let written = words::classes::parts(class.word, &mut parts);
-    let size = words::classes::size(class.word);
+    let count = words::classes::parts(class, &mut parts).unwrap();
+    let size = words::classes::size(class).unwrap();
     let mut values = [0i64; listing::MOST_PARTITIONS];
-    let column = classcolumns::column(class.word, &mut values);
-    let count = written.count;
-    let length = column.count;
-    lines(
-        &parts[..count],
-        size.number as u64,
-        &values[..length],
-        out,
-        at,
-    )
+    let length = classcolumns::column(class, &mut values).unwrap();
+    lines(&parts[..count], size as u64, &values[..length], out, at)
 }
 
 // The lines of all classes, in the order of the listing.

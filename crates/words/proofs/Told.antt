@@ -2,8 +2,8 @@
 -- are told alike.
 use mathlib.Core.Path.{◌≡◌, refl, sym, ◌∙◌, ap}
 use native.Mathlib.Omega.{arith}
-use Rattle.std.specs.Prelude.{⊤, IsOk}
-use borrow.Author.Tests.{clash}
+use Rattle.std.specs.Prelude.{⊤, IsOk, is_ok}
+use borrow.Author.Tests.{clash, ne_eqb}
 use denote.Enum.Bare.{same_true, same_false}
 use Rattle.std.specs.Result.{result_eq, result_unwrap_or}
 use Rattle.words.specs.contracts.refusal.RefusalPartialEq.TheImpl.{eq-value}
@@ -157,6 +157,14 @@ given-where (Err e) z = absurd (refuses e z)
 pub is-given : {A : Type 0} (r : Result A Refusal) → refusal_of r ≡ 0 → IsOk r
 is-given (Ok x) z = refl
 is-given (Err e) z = absurd (refuses e z)
+
+pub ok-where : {A : Type 0} (r : Result A Refusal) → refusal_of r ≡ 0 → IsOk r
+ok-where (Ok x) z = refl
+ok-where (Err e) z = absurd (refuses e z)
+
+pub ok-number : {A : Type 0} (r : Result A Refusal) → is_ok r ≡ refusal_of r =? 0
+ok-number (Ok x) = refl
+ok-number (Err e) = sym (ne_eqb (number_of e) 0 (refuses e))
 
 -- a test for one refusal
 module _ {A : Type 0} (one : A → A → Bool) (r : Result A Refusal) (e : Refusal) where

@@ -1,90 +1,81 @@
 // Every refusal at its border, with the examples E1 to E6 of document 01.
 use super::columns::{Kind, MARK, holds};
 use testing::Tally;
-use words::{NumberAnswer, WordAnswer};
+use words::Good;
+use words::Refusal::{self, BadClass, BadShape, ClassTooLarge, ColumnTooShort, ShapeTooLarge};
 
-// Whether a number is refused so, with 0 beside it; or given, where that is 0.
-fn number_refused(answer: NumberAnswer, refused: u8) -> bool {
-    (answer.refused == refused) & ((refused == 0) | (answer.number == 0))
-}
-
-// Whether parts are refused so, even by an empty column, and a column stays; or written, where that is 0.
-fn parts_refused(kind: Kind, word: u32, refused: u8) -> bool {
+// Whether parts are refused so, even by an empty column, and a column stays; or written, where nothing refuses them.
+fn parts_refused(kind: Kind, word: u32, refusal: Option<Refusal>) -> bool {
     let mut none = [MARK; 0];
     let empty = kind.parts(word, &mut none);
     let mut column = [MARK; 17];
     let read = kind.parts(word, &mut column);
-    let stays = (read.count == 0) & holds(&column, b"");
-    let first = if refused == 0 { 14 } else { refused };
-    (empty.refused == first) & (read.refused == refused) & (stays == (refused != 0))
+    let stays = read.is_err() & holds(&column, b"");
+    let first = refusal.unwrap_or(ColumnTooShort);
+    (empty == Err(first)) & (read.err() == refusal) & (stays == refusal.is_some())
 }
 
-// A word as a kind: the number that refuses it and 0, or 0 and its degree; and its parts.
-fn as_kind(t: Tally, kind: Kind, word: u32, refused: u8, degree: i64) -> Tally {
-    let told = kind.degree(word);
-    t.add((told.refused == refused) & (told.number == degree))
-        .add(parts_refused(kind, word, refused))
+// A word as a kind: its degree or why it is refused; and its parts.
+fn as_kind(t: Tally, kind: Kind, word: u32, degree: Result<u32, Refusal>) -> Tally {
+    t.add(kind.degree(word) == degree)
+        .add(parts_refused(kind, word, degree.err()))
 }
 
-fn as_shape(t: Tally, word: u32, refused: u8, degree: i64) -> Tally {
-    let turned = words::shapes::conjugate(word);
-    as_kind(t, Kind::Shape, word, refused, degree).add(
-        (turned.refused == refused) & ((refused == 0) | (turned.word == 0)),
-    )
+fn as_shape(t: Tally, word: u32, degree: Result<u32, Refusal>) -> Tally {
+    as_kind(t, Kind::Shape, word, degree).add(words::shapes::conjugate(word).err() == degree.err())
 }
 
-fn as_class(t: Tally, word: u32, refused: u8, degree: i64) -> Tally {
-    as_kind(t, Kind::Class, word, refused, degree)
-        .add(number_refused(words::classes::sign(word), refused))
-        .add(number_refused(words::classes::size(word), refused))
-        .add(number_refused(words::classes::period(word), refused))
+fn as_class(t: Tally, word: u32, degree: Result<u32, Refusal>) -> Tally {
+    as_kind(t, Kind::Class, word, degree)
+        .add(words::classes::sign(word).err() == degree.err())
+        .add(words::classes::size(word).err() == degree.err())
+        .add(words::classes::period(word).err() == degree.err())
 }
 
-// Words as shapes and as classes, each with the number that refuses it, or 0, and its degree. E4 is the fourth, E6 the
-// sixth and the eighth.
+// Words as shapes and as classes, each with its degree or why it is refused. E4 is the fourth, E6 the sixth and the
+// eighth.
 pub fn words() -> Tally {
     let mut t = Tally::new();
-    for (word, shape, n, class, m) in [
-        (0x3FFF_FFFF, 2, 0, 4, 0),
-        (0x8000_0000, 1, 0, 3, 0),
-        (0xFFFF_FFFF, 1, 0, 3, 0),
-        (0x3FFF_E000, 2, 0, 4, 0),
-        (0x3FFF_C000, 0, 16, 4, 0),
-        (0x5000_0000, 0, 1, 3, 0),
-        (0x5FFF_F000, 2, 0, 3, 0),
-        (0x0000_4000, 0, 16, 4, 0),
-        (0x0000_8000, 0, 15, 0, 16),
+    for (word, shape, class) in [
+        (0x3FFF_FFFF, Err(ShapeTooLarge), Err(ClassTooLarge)),
+        (0x8000_0000, Err(BadShape), Err(BadClass)),
+        (0xFFFF_FFFF, Err(BadShape), Err(BadClass)),
+        (0x3FFF_E000, Err(ShapeTooLarge), Err(ClassTooLarge)),
+        (0x3FFF_C000, Ok(16), Err(ClassTooLarge)),
+        (0x5000_0000, Ok(1), Err(BadClass)),
+        (0x5FFF_F000, Err(ShapeTooLarge), Err(BadClass)),
+        (0x0000_4000, Ok(16), Err(ClassTooLarge)),
+        (0x0000_8000, Ok(15), Ok(16)),
     ] {
-        t = as_class(as_shape(t, word, shape, n), word, class, m);
+        t = as_class(as_shape(t, word, shape), word, class);
     }
     t
 }
 
-// The good word of a word and the ones dropped in front; or the number that refuses it, and 0 and 0. E4 is the first
-// and the sixth. The seventh is a row of 17 with a one in front.
+fn left(word: u32, dropped: u32) -> Result<Good, Refusal> {
+    Ok(Good { word, dropped })
+}
+
+// The good word of a word and the ones dropped in front, or why it is refused. E4 is the first and the sixth. The
+// seventh is a row of 17 with a one in front.
 pub fn ones_in_front() -> Tally {
     let mut t = Tally::new();
-    for (word, refused, left, dropped) in [
-        (0x4000_0000, 0, 0, 1),
-        (0x7FFF_FFFF, 0, 0, 31),
-        (0x7FFF_8000, 0, 0, 16),
-        (0x8000_0000, 1, 0, 0),
-        (0xFFFF_FFFF, 1, 0, 0),
-        (0x3FFF_E000, 2, 0, 0),
-        (0x5FFF_F000, 2, 0, 0),
-        (0x5000_0000, 0, 0x2000_0000, 1),
-        (0x3FFF_C000, 0, 0x3FFF_C000, 0),
-        (0x7FFF_FFFD, 0, 0x2000_0000, 29),
-        (0, 0, 0, 0),
+    for (word, good) in [
+        (0x4000_0000, left(0, 1)),
+        (0x7FFF_FFFF, left(0, 31)),
+        (0x7FFF_8000, left(0, 16)),
+        (0x8000_0000, Err(BadShape)),
+        (0xFFFF_FFFF, Err(BadShape)),
+        (0x3FFF_E000, Err(ShapeTooLarge)),
+        (0x5FFF_F000, Err(ShapeTooLarge)),
+        (0x5000_0000, left(0x2000_0000, 1)),
+        (0x3FFF_C000, left(0x3FFF_C000, 0)),
+        (0x7FFF_FFFD, left(0x2000_0000, 29)),
+        (0, left(0, 0)),
     ] {
-        let told = words::shapes::good(word);
-        t = t.add((told.refused == refused) & (told.word == left) & (told.dropped == dropped));
+        t = t.add(words::shapes::good(word) == good);
     }
     t
-}
-
-fn is(made: WordAnswer, refused: u8, word: u32) -> bool {
-    (made.refused == refused) & (made.word == word)
 }
 
 // Lists that have words, as shapes and as classes: the first four are E1, E5, E2 and E3.
@@ -99,8 +90,8 @@ fn lists_given(found: Tally) -> Tally {
     let mut t = found;
     for (parts, shape, class) in lists {
         t = t
-            .add(is(Kind::Shape.word(parts), 0, shape))
-            .add(is(Kind::Class.word(parts), 0, class));
+            .add(Kind::Shape.word(parts) == Ok(shape))
+            .add(Kind::Class.word(parts) == Ok(class));
     }
     t
 }
@@ -109,21 +100,21 @@ fn lists_given(found: Tally) -> Tally {
 fn lists_refused(found: Tally) -> Tally {
     let mut rising = [1; 300];
     rising[299] = 2;
-    let lists: [(&[u8], u8, u8); 8] = [
-        (b"\x00", 3, 3),
-        (b"\x01\x02", 3, 3),
-        (b"\x11", 2, 4),
-        (b"\x10\x01", 2, 4),
-        (&[1; 17], 2, 4),
-        (&[1; 300], 2, 4),
-        (&[200; 300], 2, 4),
-        (&rising, 3, 3),
+    let lists: [(&[u8], Refusal, Refusal); 8] = [
+        (b"\x00", BadClass, BadClass),
+        (b"\x01\x02", BadClass, BadClass),
+        (b"\x11", ShapeTooLarge, ClassTooLarge),
+        (b"\x10\x01", ShapeTooLarge, ClassTooLarge),
+        (&[1; 17], ShapeTooLarge, ClassTooLarge),
+        (&[1; 300], ShapeTooLarge, ClassTooLarge),
+        (&[200; 300], ShapeTooLarge, ClassTooLarge),
+        (&rising, BadClass, BadClass),
     ];
     let mut t = found;
     for (parts, shape, class) in lists {
         t = t
-            .add(is(Kind::Shape.word(parts), shape, 0))
-            .add(is(Kind::Class.word(parts), class, 0));
+            .add(Kind::Shape.word(parts) == Err(shape))
+            .add(Kind::Class.word(parts) == Err(class));
     }
     t
 }

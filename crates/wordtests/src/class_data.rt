@@ -21,16 +21,13 @@ fn first_back(parts: &[u8]) -> u64 {
 }
 
 pub fn sign_agrees(word: u32, parts: &[u8]) -> bool {
-    let told = words::classes::sign(word);
-    let expected = if is_plus(parts) { 1 } else { -1 };
-    (told.refused == 0) & (told.number == expected)
+    words::classes::sign(word) == Ok(if is_plus(parts) { 1 } else { -1 })
 }
 
 pub fn period_agrees(word: u32, parts: &[u8]) -> bool {
-    let told = words::classes::period(word);
-    (told.refused == 0) & (natural(told.number) == first_back(parts))
+    words::classes::period(word).is_ok_and(|told| natural(told) == first_back(parts))
 }
 
 pub fn size(word: u32) -> u64 {
-    natural(words::classes::size(word).number)
+    natural(words::classes::size(word).unwrap_or(0))
 }

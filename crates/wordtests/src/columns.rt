@@ -1,5 +1,5 @@
 // Words there and back: parts in columns of up to seventeen entries.
-use words::{CountAnswer, NumberAnswer, WordAnswer};
+use words::Refusal;
 
 #[derive(Clone, Copy)]
 pub enum Kind {
@@ -8,21 +8,21 @@ pub enum Kind {
 }
 
 impl Kind {
-    pub fn degree(self, word: u32) -> NumberAnswer {
+    pub fn degree(self, word: u32) -> Result<u32, Refusal> {
         match self {
             Kind::Shape => words::shapes::degree(word),
             Kind::Class => words::classes::degree(word),
         }
     }
 
-    pub fn parts(self, word: u32, column: &mut [u8]) -> CountAnswer {
+    pub fn parts(self, word: u32, column: &mut [u8]) -> Result<usize, Refusal> {
         match self {
             Kind::Shape => words::shapes::parts(word, column),
             Kind::Class => words::classes::parts(word, column),
         }
     }
 
-    pub fn word(self, parts: &[u8]) -> WordAnswer {
+    pub fn word(self, parts: &[u8]) -> Result<u32, Refusal> {
         match self {
             Kind::Shape => words::shapes::word(parts),
             Kind::Class => words::classes::word(parts),
@@ -47,21 +47,19 @@ pub fn written(kind: Kind, word: u32, parts: &[u8], room: usize) -> bool {
         return false;
     };
     let read = kind.parts(word, column);
-    let (refused, given) = if room < parts.len() {
-        (14, 0)
+    let (expected, given) = if room < parts.len() {
+        (Err(Refusal::ColumnTooShort), 0)
     } else {
-        (0, parts.len())
+        (Ok(parts.len()), parts.len())
     };
-    (read.refused == refused) & (read.count == given) & holds(column, &parts[..given])
+    (read == expected) & holds(column, &parts[..given])
 }
 
 // Whether a partition's word was made, has the degree n and fills a column of their number with the parts.
-pub fn there_and_back(kind: Kind, made: WordAnswer, parts: &[u8], n: u8) -> bool {
-    let told = kind.degree(made.word);
-    (made.refused == 0)
-        & (told.refused == 0)
-        & (told.number == i64::from(n))
-        & written(kind, made.word, parts, parts.len())
+pub fn there_and_back(kind: Kind, made: Result<u32, Refusal>, parts: &[u8], n: u8) -> bool {
+    made.is_ok_and(|word| {
+        (kind.degree(word) == Ok(u32::from(n))) & written(kind, word, parts, parts.len())
+    })
 }
 
 // Whether an empty column and one too short by one refuse a word's parts, and the rest of a longer one stays.

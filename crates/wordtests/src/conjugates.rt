@@ -22,6 +22,7 @@ fn turns(word: u32, parts: &[u8]) -> bool {
 // Whether the conjugate of a shape word is the transposed partition, and the conjugate of that is the word again.
 pub fn agrees(word: u32, parts: &[u8]) -> bool {
     let turned = words::shapes::conjugate(word);
-    let again = words::shapes::conjugate(turned.word);
-    (turned.refused == 0) & (again.refused == 0) & (again.word == word) & turns(turned.word, parts)
+    turned.is_ok_and(|turned| {
+        (words::shapes::conjugate(turned) == Ok(word)) & turns(turned, parts)
+    })
 }

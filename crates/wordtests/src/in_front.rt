@@ -1,23 +1,23 @@
 // Words with ones in front (document 02, P6): a good word with one to as many ones in front as fit.
 use super::columns::{Kind, written};
 use testing::Tally;
+use words::Good;
 
 // Whether the calls answer a word with so many ones in front as they answer the good word of these rows.
 fn agrees(good: u32, word: u32, ones: u32, parts: &[u8], n: u8) -> bool {
-    let told = words::shapes::good(word);
-    let degree = words::shapes::degree(word);
+    let left = Good {
+        word: good,
+        dropped: ones,
+    };
     let turned = words::shapes::conjugate(word);
     let rank = listing::shape_rank(word);
-    (told.refused == 0)
-        & (told.word == good)
-        & (told.dropped == ones)
-        & (degree.refused == 0)
-        & (degree.number == i64::from(n))
+    (words::shapes::good(word) == Ok(left))
+        & (words::shapes::degree(word) == Ok(u32::from(n)))
         & written(Kind::Shape, word, parts, parts.len())
-        & (turned.refused == 0)
-        & (turned.word == words::shapes::conjugate(good).word)
-        & (rank.refused == 0)
-        & (rank.number == listing::shape_rank(good).number)
+        & turned.is_ok()
+        & (turned == words::shapes::conjugate(good))
+        & rank.is_ok()
+        & (rank == listing::shape_rank(good))
 }
 
 // All digits move down by one and a one comes in front, until the last digit is a one, which would get lost. The empty

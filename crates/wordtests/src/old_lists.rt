@@ -1,7 +1,8 @@
 // Lists of shapes in the old form, as classes are packed, and in the new: all partitions there and back, and every
 // refusal at its border.
-use oldlists::{LIST_LIMIT, ListAnswer};
+use oldlists::{LIST_LIMIT, Rejected};
 use testing::Tally;
+use words::Refusal::{self, BadClass, BadLengths, BadShape, ClassTooLarge, ShapeTooLarge};
 
 // The longest run that is tried, one word more than a list may have.
 const MOST: usize = LIST_LIMIT + 1;
@@ -17,16 +18,12 @@ enum Way {
 }
 
 impl Way {
-    fn moved(self, given: &[u32], lent: &mut [u32]) -> ListAnswer {
+    fn moved(self, given: &[u32], lent: &mut [u32]) -> Result<(), Rejected> {
         match self {
             Way::ToOld => oldlists::to_old(given, lent),
             Way::FromOld => oldlists::from_old(given, lent),
         }
     }
-}
-
-fn is(answer: ListAnswer, refused: u8, index: usize) -> bool {
-    (answer.refused == refused) & (answer.index == index)
 }
 
 // Whether a run has this word in the first places, and what it was lent with in the others.
@@ -40,7 +37,7 @@ fn holds(run: &[u32], word: u32, count: usize) -> bool {
 fn moves(way: Way, word: u32, other: u32) -> bool {
     let given = [word; 1];
     let mut lent = [LENT; 1];
-    is(way.moved(&given, &mut lent), 0, 0) & holds(&lent, other, 1)
+    way.moved(&given, &mut lent).is_ok() & holds(&lent, other, 1)
 }
 
 // Whether the two words of a partition are moved to each other.
@@ -53,8 +50,8 @@ pub fn all() -> Tally {
     let words = listing::shape_words();
     let mut old = [LENT; listing::WORD_COUNT];
     let mut new = [LENT; listing::WORD_COUNT];
-    let there = is(Way::ToOld.moved(&words, &mut old), 0, 0);
-    let back = is(Way::FromOld.moved(&old, &mut new), 0, 0);
+    let there = Way::ToOld.moved(&words, &mut old).is_ok();
+    let back = Way::FromOld.moved(&old, &mut new).is_ok();
     let mut t = Tally::new();
     for (moved, word) in new.iter().zip(&words) {
         t = t.add(there & back & (moved == word));
@@ -63,23 +60,27 @@ pub fn all() -> Tally {
 }
 
 // Whether a list of so many words, all alike, is moved to one of `room` words as words of the empty shape, or refused.
-fn length(way: Way, count: usize, room: usize, word: u32, refused: u8) -> bool {
+fn length(way: Way, count: usize, room: usize, word: u32, expected: Result<(), Rejected>) -> bool {
     let from = [word; MOST];
     let mut to = [LENT; MOST];
     let (Some(given), Some(lent)) = (from.get(..count), to.get_mut(..room)) else {
         return false;
     };
     let answer = way.moved(given, lent);
-    let wrote = if refused == 0 { count } else { 0 };
-    is(answer, refused, 0) & holds(&to, 0, wrote)
+    let wrote = if expected.is_ok() { count } else { 0 };
+    (answer == expected) & holds(&to, 0, wrote)
 }
 
 // Lengths that are moved, and lengths that are refused, whatever the words are.
 fn lengths(found: Tally, way: Way) -> Tally {
     let mut t = found;
     for count in [0, 1, LIST_LIMIT] {
-        t = t.add(length(way, count, count, 0, 0));
+        t = t.add(length(way, count, count, 0, Ok(())));
     }
+    let refused = Err(Rejected {
+        refusal: BadLengths,
+        index: 0,
+    });
     for (count, room) in [
         (MOST, MOST),
         (0, 1),
@@ -90,14 +91,14 @@ fn lengths(found: Tally, way: Way) -> Tally {
         (MOST, LIST_LIMIT),
     ] {
         t = t
-            .add(length(way, count, room, 0, 20))
-            .add(length(way, count, room, 0xFFFF_FFFF, 20));
+            .add(length(way, count, room, 0, refused))
+            .add(length(way, count, room, 0xFFFF_FFFF, refused));
     }
     t
 }
 
 // Whether the longest list is refused for the word at this place, though the last word is bad too.
-fn bad_at(way: Way, place: usize, word: u32, refused: u8) -> bool {
+fn bad_at(way: Way, place: usize, word: u32, refusal: Refusal) -> bool {
     if LIST_LIMIT <= place {
         return false;
     }
@@ -105,22 +106,26 @@ fn bad_at(way: Way, place: usize, word: u32, refused: u8) -> bool {
     given[LIST_LIMIT - 1] = 0xFFFF_FFFF;
     given[place] = word;
     let mut lent = [LENT; LIST_LIMIT];
-    is(way.moved(&given, &mut lent), refused, place) & holds(&lent, 0, 0)
+    let refused = Err(Rejected {
+        refusal,
+        index: place,
+    });
+    (way.moved(&given, &mut lent) == refused) & holds(&lent, 0, 0)
 }
 
 // Old words with bit 31 set, with a rise and of degree 17; new ones of 2^30, of degree 17, and of both kinds.
 fn bad_words(found: Tally) -> Tally {
     let mut t = found;
-    for (way, word, refused) in [
-        (Way::FromOld, 0x8000_0000, 3),
-        (Way::FromOld, 0x5000_0000, 3),
-        (Way::FromOld, 0x0000_4000, 4),
-        (Way::ToOld, 0x4000_0000, 1),
-        (Way::ToOld, 0x5FFF_F000, 1),
-        (Way::ToOld, 0x3FFF_E000, 2),
+    for (way, word, refusal) in [
+        (Way::FromOld, 0x8000_0000, BadClass),
+        (Way::FromOld, 0x5000_0000, BadClass),
+        (Way::FromOld, 0x0000_4000, ClassTooLarge),
+        (Way::ToOld, 0x4000_0000, BadShape),
+        (Way::ToOld, 0x5FFF_F000, BadShape),
+        (Way::ToOld, 0x3FFF_E000, ShapeTooLarge),
     ] {
         for place in [0, 1, 2047, LIST_LIMIT - 1] {
-            t = t.add(bad_at(way, place, word, refused));
+            t = t.add(bad_at(way, place, word, refusal));
         }
     }
     t

@@ -29,8 +29,7 @@ pub struct Found {
 
 // Whether the listing has a class at the place at which the walk meets it.
 fn is_listed(n: u8, number: u64, class: u32) -> bool {
-    let told = listing::class_at(u32::from(n), (number % 0x1_0000_0000) as u32);
-    (told.refused == 0) & (told.word == class)
+    listing::class_at(u32::from(n), (number % 0x1_0000_0000) as u32) == Ok(class)
 }
 
 impl Found {
@@ -64,8 +63,9 @@ impl Found {
         self.classes = self
             .classes
             .add(there_and_back(Kind::Class, class, parts, n));
-        self.meet_words(shape.word, class.word, parts, n);
-        self.meet_class(class.word, parts);
+        let class = class.unwrap_or(0);
+        self.meet_words(shape.unwrap_or(0), class, parts, n);
+        self.meet_class(class, parts);
     }
 
     // All partitions of n: their number on standard output, and whether the sizes of their classes sum to n!. A walk

@@ -25,9 +25,7 @@ pub extern "C" fn zembrusha_gathered_open(
         (handed_run (opening_in gathered_mode degree_limit shape class (page.old, coefficients.old)))
         result (page.new, coefficients.new) }
 {
-    let opened = gathered::open(shape, class, page, coefficients);
-    let slip = opened.slip;
-    handing::slip_out(opened.refused, slip)
+    Handed::from(gathered::open(shape, class, page, coefficients))
 }
 
 // The hooks that make lines of a named line and cycle, each with its own sign, at the front of a strip; their count is
@@ -45,8 +43,8 @@ pub extern "C" fn zembrusha_gathered_preview(
         (counted (preview_in gathered_mode degree_limit (given slip) (page.now, coefficients.now)
         line cycle strip.old)) result strip.new }
 {
-    let own = handing::slip_in(slip);
-    handing::of_count(gathered::preview(own, page, coefficients, line as usize, cycle, strip))
+    let own = pages::Slip::from(slip);
+    Number::from(gathered::preview(own, page, coefficients, line as usize, cycle, strip))
 }
 
 // Finishes a step whose preview is the front of the strip: its hooks are gathered.
@@ -63,10 +61,8 @@ pub extern "C" fn zembrusha_gathered_commit(
         (handed_run (commit_in gathered_mode degree_limit (given slip) (page.old, coefficients.old)
         line cycle strip.now)) result (page.new, coefficients.new) }
 {
-    let own = handing::slip_in(slip);
-    let committed = gathered::commit(own, page, coefficients, line as usize, cycle, strip);
-    let next = committed.slip;
-    handing::slip_out(committed.refused, next)
+    let own = pages::Slip::from(slip);
+    Handed::from(gathered::commit(own, page, coefficients, line as usize, cycle, strip))
 }
 
 // The whole number that a watch gives, 0 where it gives none.
@@ -81,7 +77,7 @@ pub extern "C" fn zembrusha_gathered_watch_whole(
     ensures { result ≡ number
         (watch_in gathered_mode degree_limit (given slip) (page.now, coefficients.now) kind line).1 }
 {
-    let own = handing::slip_in(slip);
+    let own = pages::Slip::from(slip);
     handing::whole(gathered::watch(own, page, coefficients, kind, line as usize))
 }
 
@@ -97,7 +93,7 @@ pub extern "C" fn zembrusha_gathered_watch_ratio(
     ensures { result ≡ fraction
         (watch_in gathered_mode degree_limit (given slip) (page.now, coefficients.now) kind line).1 }
 {
-    let own = handing::slip_in(slip);
+    let own = pages::Slip::from(slip);
     handing::ratio(gathered::watch(own, page, coefficients, kind, line as usize))
 }
 
@@ -113,7 +109,7 @@ pub extern "C" fn zembrusha_gathered_watch_refusal(
     ensures { result
         ≡ (watch_in gathered_mode degree_limit (given slip) (page.now, coefficients.now) kind line).0 }
 {
-    let own = handing::slip_in(slip);
+    let own = pages::Slip::from(slip);
     handing::refusal(gathered::watch(own, page, coefficients, kind, line as usize))
 }
 
@@ -129,8 +125,8 @@ pub extern "C" fn zembrusha_gathered_save(
         (counted (save_by gathered_form degree_limit (given slip) (page.now, coefficients.now)
         text.old)) result text.new }
 {
-    let own = handing::slip_in(slip);
-    handing::of_count(sessiontext::gathered::save(own, page, coefficients, text))
+    let own = pages::Slip::from(slip);
+    Number::from(sessiontext::gathered::save(own, page, coefficients, text))
 }
 
 // The gathered session whose text this is.
@@ -144,7 +140,5 @@ pub extern "C" fn zembrusha_gathered_load(
         (loaded_run (load_by gathered_form degree_limit text.now (page.old, coefficients.old)))
         result (page.new, coefficients.new) }
 {
-    let loaded = sessiontext::gathered::load(text, page, coefficients);
-    let slip = loaded.slip;
-    handing::of_load(loaded.refused, loaded.line, slip)
+    Loaded::from(sessiontext::gathered::load(text, page, coefficients))
 }

@@ -15,9 +15,7 @@ use super::{Handed, Number, Slip, handing};
 pub extern "C" fn zembrusha_open(shape: u32, class: u32, page: &mut [u64]) -> Handed
     ensures { Outcome (handed_run (opening degree_limit shape class page.old)) result page.new }
 {
-    let opened = sessions::open(shape, class, page);
-    let slip = opened.slip;
-    handing::slip_out(opened.refused, slip)
+    Handed::from(sessions::open(shape, class, page))
 }
 
 // The new lines of a named line and cycle, at the front of a strip; their count is the number.
@@ -33,8 +31,8 @@ pub extern "C" fn zembrusha_preview(
         (counted (preview degree_limit (given slip) page.now line cycle strip.old))
         result strip.new }
 {
-    let own = handing::slip_in(slip);
-    handing::of_count(sessions::preview(own, page, line as usize, cycle, strip))
+    let own = pages::Slip::from(slip);
+    Number::from(sessions::preview(own, page, line as usize, cycle, strip))
 }
 
 // Finishes a step whose preview is the front of the strip.
@@ -50,10 +48,8 @@ pub extern "C" fn zembrusha_commit(
         (handed_run (commit degree_limit (given slip) page.old line cycle strip.now))
         result page.new }
 {
-    let own = handing::slip_in(slip);
-    let committed = sessions::commit(own, page, line as usize, cycle, strip);
-    let next = committed.slip;
-    handing::slip_out(committed.refused, next)
+    let own = pages::Slip::from(slip);
+    Handed::from(sessions::commit(own, page, line as usize, cycle, strip))
 }
 
 // The whole number that a watch gives, 0 where it gives none.
@@ -61,7 +57,7 @@ pub extern "C" fn zembrusha_commit(
 pub extern "C" fn zembrusha_watch_whole(slip: Slip, page: &[u64], kind: u64, line: u64) -> i64
     ensures { result ≡ number (watch degree_limit (given slip) page.now kind line).1 }
 {
-    handing::whole(characters::watches::watch(handing::slip_in(slip), page, kind, line as usize))
+    handing::whole(characters::watches::watch(pages::Slip::from(slip), page, kind, line as usize))
 }
 
 // The ratio that a watch gives, 0 where it gives none.
@@ -69,7 +65,7 @@ pub extern "C" fn zembrusha_watch_whole(slip: Slip, page: &[u64], kind: u64, lin
 pub extern "C" fn zembrusha_watch_ratio(slip: Slip, page: &[u64], kind: u64, line: u64) -> f64
     ensures { result ≡ fraction (watch degree_limit (given slip) page.now kind line).1 }
 {
-    handing::ratio(characters::watches::watch(handing::slip_in(slip), page, kind, line as usize))
+    handing::ratio(characters::watches::watch(pages::Slip::from(slip), page, kind, line as usize))
 }
 
 // The refusal number of the same watch, 0 for none.
@@ -77,5 +73,5 @@ pub extern "C" fn zembrusha_watch_ratio(slip: Slip, page: &[u64], kind: u64, lin
 pub extern "C" fn zembrusha_watch_refusal(slip: Slip, page: &[u64], kind: u64, line: u64) -> u32
     ensures { result ≡ (watch degree_limit (given slip) page.now kind line).0 }
 {
-    handing::refusal(characters::watches::watch(handing::slip_in(slip), page, kind, line as usize))
+    handing::refusal(characters::watches::watch(pages::Slip::from(slip), page, kind, line as usize))
 }

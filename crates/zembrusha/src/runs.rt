@@ -8,14 +8,14 @@ ghost use Rattle.oldlists.specs.Calls.{shapes_from_old, shapes_to_old};
 ghost use Rattle.classcolumns.specs.Calls.{column_into};
 ghost use Rattle.zembrusha.specs.Exports.{of_word, counted, listed};
 
-use super::{Listed, Number, handing};
+use super::{Listed, Number};
 
 // The shape word of a part list.
 #[unsafe(no_mangle)]
 pub extern "C" fn zembrusha_shape_word(parts: &[u8]) -> Number
     ensures { result ≡ of_word (shape_word_from degree_limit parts.now) }
 {
-    handing::of_word(words::shapes::word(parts))
+    Number::from(words::shapes::word(parts))
 }
 
 // The class word of a part list.
@@ -23,7 +23,7 @@ pub extern "C" fn zembrusha_shape_word(parts: &[u8]) -> Number
 pub extern "C" fn zembrusha_class_word(parts: &[u8]) -> Number
     ensures { result ≡ of_word (class_word_from degree_limit parts.now) }
 {
-    handing::of_word(words::classes::word(parts))
+    Number::from(words::classes::word(parts))
 }
 
 // The rows of a shape word to the front of a column; their count.
@@ -32,7 +32,7 @@ pub extern "C" fn zembrusha_shape_parts(shape: u32, column: &mut [u8]) -> Number
     ensures { Outcome (counted (shape_parts_into degree_limit shape column.old))
         result column.new }
 {
-    handing::of_count(words::shapes::parts(shape, column))
+    Number::from(words::shapes::parts(shape, column))
 }
 
 // The parts of a class word to the front of a column; their count.
@@ -41,7 +41,7 @@ pub extern "C" fn zembrusha_class_parts(class: u32, column: &mut [u8]) -> Number
     ensures { Outcome (counted (class_parts_into degree_limit class column.old))
         result column.new }
 {
-    handing::of_count(words::classes::parts(class, column))
+    Number::from(words::classes::parts(class, column))
 }
 
 // The shape words of shapes packed by the first method, as classes are, entry by entry.
@@ -50,7 +50,7 @@ pub extern "C" fn zembrusha_shapes_from_old(old: &[u32], new: &mut [u32]) -> Lis
     ensures { Outcome (listed (shapes_from_old degree_limit old.now new.old))
         result new.new }
 {
-    handing::of_list(oldlists::from_old(old, new))
+    Listed::from(oldlists::from_old(old, new))
 }
 
 // And back.
@@ -59,7 +59,7 @@ pub extern "C" fn zembrusha_shapes_to_old(new: &[u32], old: &mut [u32]) -> Liste
     ensures { Outcome (listed (shapes_to_old degree_limit new.now old.old))
         result old.new }
 {
-    handing::of_list(oldlists::to_old(new, old))
+    Listed::from(oldlists::to_old(new, old))
 }
 
 // The values of a class for all shapes, in listing order, to the front of a column; their count.
@@ -67,5 +67,5 @@ pub extern "C" fn zembrusha_shapes_to_old(new: &[u32], old: &mut [u32]) -> Liste
 pub extern "C" fn zembrusha_column(class: u32, values: &mut [i64]) -> Number
     ensures { Outcome (counted (column_into degree_limit class values.old)) result values.new }
 {
-    handing::of_count(classcolumns::column(class, values))
+    Number::from(classcolumns::column(class, values))
 }

@@ -30,7 +30,7 @@ pub extern "C" fn zembrusha_character_refusal(shape: u32, class: u32) -> u32
 pub extern "C" fn zembrusha_good_shape(word: u32) -> Good
     ensures { result ≡ of_good (good_shape_word degree_limit word) }
 {
-    handing::of_good(words::shapes::good(word))
+    Good::from(words::shapes::good(word))
 }
 
 // The degree n of a shape word.

@@ -4,7 +4,7 @@ ghost use Rattle.words.specs.Answers.{Outcome};
 ghost use Rattle.sessiontext.specs.Calls.{save_into, load_into};
 ghost use Rattle.zembrusha.specs.Exports.{given, counted, loaded_run};
 
-use super::{Loaded, Number, Slip, handing};
+use super::{Loaded, Number, Slip};
 
 // The text of a session, at the front of a text buffer; its length is the number.
 #[unsafe(no_mangle)]
@@ -12,7 +12,7 @@ pub extern "C" fn zembrusha_save(slip: Slip, page: &[u64], text: &mut [u8]) -> N
     ensures { Outcome (counted (save_into degree_limit (given slip) page.now text.old))
         result text.new }
 {
-    handing::of_count(sessiontext::save(handing::slip_in(slip), page, text))
+    Number::from(sessiontext::save(pages::Slip::from(slip), page, text))
 }
 
 // The session whose text this is.
@@ -21,7 +21,5 @@ pub extern "C" fn zembrusha_load(text: &[u8], page: &mut [u64]) -> Loaded
     ensures { Outcome (loaded_run (load_into degree_limit text.now page.old))
         result page.new }
 {
-    let loaded = sessiontext::load(text, page);
-    let slip = loaded.slip;
-    handing::of_load(loaded.refused, loaded.line, slip)
+    Loaded::from(sessiontext::load(text, page))
 }

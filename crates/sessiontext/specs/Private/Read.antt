@@ -1,33 +1,27 @@
 -- What the private readers of a line of text are asked, and what they answer.
 --   Named name             a name of 8 bytes at most, without digits
---   ReadNumber name t r    r says whether t is a line of this name and a number of 64 bits, and then which; ReadSteps and
---                          ReadSettled, so of those lines; ReadSigned m n r, whether 64 bits hold n with this sign;
---                          ReadInteger t r, whether they hold what is read off t
---   ReadParts w t r column the parts that stand in t, at the front of a column, and their word by w, if they are a
---                          partition within the limit; no_parts, if not; ReadShape and ReadClass, so of those lines
---   ReadLine t r           what stands in t of a waiting line; ReadWaiting t r, and whether t is of its form
---   ReadNext text at r     whether the text's line at `at` is of its form, and then its word, and where it ends
---   ReadLines ts b r       the first of the lines ts at fault, and then whether the budget b suffices for them
---   read_checks ..          the checks of the first six lines by what was read off them; ReadHead, what was read in all
-use Rattle.std.specs.Prelude.{◌≡◌, ◌≤◌, ◌&&◌, ◌∷◌, ◌+◌, ◌^◌}
-use Rattle.theory.specs.Basics.{Bool, true, false, not, cond, List, [], map, ℕ, length, take, drop}
-use Rattle.theory.specs.Basics.{pos, neg_ℤ, every, ◌=?◌}
-use Rattle.theory.specs.Partition.{Parts, degree}
+--   Tells test value r     r is the value where the test holds, and None where it does not
+--   ReadNumber name t r    so of t as a line of this name and a number of 64 bits; ReadSteps and ReadSettled, of those
+--                          lines; ReadSigned m n r, of n with this sign, where 64 bits hold it; ReadInteger t r, of what
+--                          is read off t; ReadShape and ReadClass, of those lines
+--   ReadLine t r           so of what stands in t of a waiting line; ReadWaiting t r, of t as a waiting line
+--   ReadNext text r        so of the text's first line; with its word, what is behind it
+--   ReadLines ts b r       whether the budget b suffices for the lines ts, or the first of them at fault
+--   HeadOf text h          the first six lines are of their form, and h is what they tell; ReadHead text r, r is that, or
+--                          the first of them at fault
+use Rattle.std.specs.Prelude.{◌≡◌, ◌≤◌, ◌&&◌, ◌^◌, ◌≢◌, Option, MatchOption, Result, MatchResult}
+use denote.Ref.{Bor}
+use Rattle.theory.specs.Basics.{Bool, true, false, not, cond, List, map, ℕ, ℤ, length, drop}
+use Rattle.theory.specs.Basics.{pos, neg_ℤ, every}
+use Rattle.theory.specs.Partition.{degree}
 use Rattle.theory.specs.ShapeWord.{shape_word}
 use Rattle.theory.specs.ClassWord.{class_word}
 use Rattle.theory.specs.Limits.{degree_limit}
-use Rattle.theory.specs.Refusals.{Check, first_of}
+use Rattle.theory.specs.Refusals.{first_of}
 use Rattle.text.specs.Text.{Text, ascii}
 use Rattle.textreading.specs.Reading.{is_digit, number_in, integer_in, list_in, lines_of, first_line}
-use Rattle.sessiontext.specs.declared.numbers.NumberRead.{NumberRead}
-use Rattle.sessiontext.specs.declared.numbers.IntegerRead.{IntegerRead}
-use Rattle.sessiontext.specs.declared.partitions.PartsRead.{PartsRead}
-use Rattle.sessiontext.specs.declared.partitions.ShapeRead.{ShapeRead}
-use Rattle.sessiontext.specs.declared.partitions.ClassRead.{ClassRead}
-use Rattle.sessiontext.specs.declared.straight.LineAt.{LineAt}
-use Rattle.sessiontext.specs.declared.waiting.LineRead.{LineRead}
-use Rattle.sessiontext.specs.declared.waiting.LinesRead.{LinesRead}
-use Rattle.sessiontext.specs.declared.reading.HeadRead.{HeadRead}
+use Rattle.sessiontext.specs.declared.partitions.ShapeAsked.{ShapeAsked}
+use Rattle.sessiontext.specs.declared.reading.FirstLines.{FirstLines}
 use Rattle.pages.specs.declared.Budget.{Budget}
 use Rattle.pages.specs.Page.{word_of}
 use Rattle.pages.specs.Budget.{spent_all}
@@ -40,72 +34,65 @@ pub record Named (name : Text) : Type 0 where
   pub short : length name ≤ 8
   pub silent : every (λ b. not (is_digit b)) name ≡ true
 
+abbrev pub Tells : {A : Type 0} → Bool → A → Option A → Type 0
+Tells test value r = MatchOption r (test ≡ false) (λ v. (test ≡ true) × (v ≡ value))
+
 -- ---- numbers
-pub record ReadNumber (name t : Text) (r : NumberRead) : Type 0 where
-  pub formed : r.formed ≡ is_number name (2 ^ 64) t
-  pub number : r.formed ≡ true → r.number ≡ number_in t
+abbrev pub ReadNumber : Text → Text → Option ℕ → Type 0
+ReadNumber name t r = Tells (is_number name (2 ^ 64) t) (number_in t) r
 
-pub record ReadSteps (t : Text) (r : IntegerRead) : Type 0 where
-  pub formed : r.formed ≡ is_number (ascii "steps=") (2 ^ 63) t
-  pub number : r.formed ≡ true → r.number ≡ pos (number_in t)
+abbrev pub ReadSteps : Text → Option ℤ → Type 0
+ReadSteps t r = Tells (is_number (ascii "steps=") (2 ^ 63) t) (pos (number_in t)) r
 
-pub record ReadSigned (minus : Bool) (size : ℕ) (r : IntegerRead) : Type 0 where
-  pub formed : r.formed ≡ held (cond minus (neg_ℤ (pos size)) (pos size))
-  pub number : r.formed ≡ true → r.number ≡ cond minus (neg_ℤ (pos size)) (pos size)
+abbrev pub ReadSigned : Bool → ℕ → Option ℤ → Type 0
+ReadSigned minus size r =
+    Tells (held (cond minus (neg_ℤ (pos size)) (pos size))) (cond minus (neg_ℤ (pos size)) (pos size)) r
 
-pub record ReadInteger (t : Text) (r : IntegerRead) : Type 0 where
-  pub formed : r.formed ≡ held (integer_in t)
-  pub number : r.formed ≡ true → r.number ≡ integer_in t
+abbrev pub ReadInteger : Text → Option ℤ → Type 0
+ReadInteger t r = Tells (held (integer_in t)) (integer_in t) r
 
-pub record ReadSettled (t : Text) (r : IntegerRead) : Type 0 where
-  pub formed : r.formed ≡ is_integer (ascii "settled=") t
-  pub number : r.formed ≡ true → r.number ≡ integer_in t
+abbrev pub ReadSettled : Text → Option ℤ → Type 0
+ReadSettled t r = Tells (is_integer (ascii "settled=") t) (integer_in t) r
 
 -- ---- lists
-abbrev pub no_parts : PartsRead
-no_parts = record { formed = false; count = 0; word = 0 }
+abbrev pub ReadShape : Text → Option ShapeAsked → Type 0
+ReadShape t r =
+    MatchOption r (is_list degree_limit (ascii "shape=") t ≡ false) (λ s.
+    (is_list degree_limit (ascii "shape=") t ≡ true) × (s.word ≡ shape_word (list_in t))
+    × (s.degree ≡ degree (list_in t)))
 
-pub record ReadParts (word_of : Parts → ℕ) (t : Text) (r : PartsRead) (column : List ℕ) : Type 0 where
-  pub formed : r.formed ≡ in_limit degree_limit (list_in t)
-  pub inside : r.formed ≡ true → r.count ≤ length column
-  pub front : r.formed ≡ true → take r.count column ≡ list_in t
-  pub word : r.formed ≡ true → r.word ≡ word_of (list_in t)
+abbrev pub ReadClass : Text → Option ℕ → Type 0
+ReadClass t r = Tells (is_list degree_limit (ascii "class=") t) (class_word (list_in t)) r
 
-pub record ReadShape (t : Text) (r : ShapeRead) : Type 0 where
-  pub formed : r.formed ≡ is_list degree_limit (ascii "shape=") t
-  pub word : r.formed ≡ true → r.word ≡ shape_word (list_in t)
-  pub degree : r.formed ≡ true → r.degree ≡ degree (list_in t)
+-- ---- waiting lines
+abbrev pub ReadLine : Text → Option ℕ → Type 0
+ReadLine t r =
+    Tells (in_limit degree_limit (shape_in t) && in_limit degree_limit (class_in t)) (word_of (line_in t)) r
 
-pub record ReadClass (t : Text) (r : ClassRead) : Type 0 where
-  pub formed : r.formed ≡ is_list degree_limit (ascii "class=") t
-  pub word : r.formed ≡ true → r.word ≡ class_word (list_in t)
+abbrev pub ReadWaiting : Text → Option ℕ → Type 0
+ReadWaiting t r = Tells (is_waiting degree_limit t) (word_of (line_in t)) r
 
-pub record ReadLine (t : Text) (r : LineRead) : Type 0 where
-  pub formed : r.formed ≡ (in_limit degree_limit (shape_in t) && in_limit degree_limit (class_in t))
-  pub word : r.formed ≡ true → r.word ≡ word_of (line_in t)
+abbrev pub ReadNext : Text → Option (ℕ × Bor Text) → Type 0
+ReadNext text r =
+    MatchOption r (is_waiting degree_limit (first_line text) ≡ false) (λ l.
+    (is_waiting degree_limit (first_line text) ≡ true) × (l.0 ≡ word_of (line_in (first_line text)))
+    × (l.1.now ≡ drop (length (first_line text)) text))
 
-pub record ReadWaiting (t : Text) (r : LineRead) : Type 0 where
-  pub formed : r.formed ≡ is_waiting degree_limit t
-  pub word : r.formed ≡ true → r.word ≡ word_of (line_in t)
-
-pub record ReadNext (text : Text) (at : ℕ) (r : LineAt) : Type 0 where
-  pub ends : r.end ≡ at + length (first_line (drop at text))
-  pub formed : r.formed ≡ is_waiting degree_limit (first_line (drop at text))
-  pub word : r.formed ≡ true → r.word ≡ word_of (line_in (first_line (drop at text)))
-
-pub record ReadLines (ts : List Text) (budget : Budget) (r : LinesRead) : Type 0 where
-  pub first : r.fault ≡ first_of (line_faults degree_limit 7 ts)
-  pub enough : r.fault ≡ 0 → r.enough ≡ (spent_all degree_limit budget (map line_in ts)).enough
+abbrev pub ReadLines : List Text → Budget → Result Bool ℕ → Type 0
+ReadLines ts budget r =
+    MatchResult r
+    (λ enough.
+    (first_of (line_faults degree_limit 7 ts) ≡ 0) × (enough ≡ (spent_all degree_limit budget (map line_in ts)).enough))
+    (λ line. (line ≡ first_of (line_faults degree_limit 7 ts)) × (line ≢ 0))
 
 -- ---- the first six lines
-abbrev pub read_checks : NumberRead → ShapeRead → Bool → Bool → Bool → Bool → List Check
-read_checks degree shape class steps settled count =
-    (not degree.formed, 1) ∷ (shape.formed && not (degree.number =? shape.degree), 1) ∷ (not shape.formed, 2)
-    ∷ (not class, 3) ∷ (not steps, 4) ∷ (not settled, 5) ∷ (not count, 6) ∷ []
+pub record HeadOf (text : Text) (h : FirstLines) : Type 0 where
+  pub passes : first_of (head_faults degree_limit text) ≡ 0
+  pub slip : h.slip ≡ slip_in text
+  pub far : 6 ≤ h.end
+  pub fits : h.end ≤ length text
+  pub rest : lines_of (drop h.end text) ≡ following text
 
-pub record ReadHead (text : Text) (r : HeadRead) : Type 0 where
-  pub first : r.fault ≡ first_of (head_faults degree_limit text)
-  pub slip : r.fault ≡ 0 → r.slip ≡ slip_in text
-  pub far : r.fault ≡ 0 → 6 ≤ r.end
-  pub fits : r.end ≤ length text
-  pub rest : lines_of (drop r.end text) ≡ following text
+abbrev pub ReadHead : Text → Result FirstLines ℕ → Type 0
+ReadHead text r =
+    MatchResult r (HeadOf text) (λ line. (line ≡ first_of (head_faults degree_limit text)) × (line ≢ 0))

@@ -1,40 +1,42 @@
--- What the readers that go straight on answer: the text that they passed over is that of what they read.
---   Stands t text at end   t stands in the text from `at` to `end`
---   PartStands ..          so does the part that was read; ListStands, the list, with a byte behind it; WordStands, the
---                          list of a word
---   LineStands text at r   a line that was read is the text's line at `at`, of its form
-use Rattle.std.specs.Prelude.{◌≡◌, ◌≤◌, ◌∷◌, ◌++◌, ◌+◌}
-use Rattle.theory.specs.Basics.{true, List, [], ℕ, length, take, drop}
+-- What the readers that go straight on answer: a text is that of what was read, with what is behind it.
+--   PartStands text r      so it is of the part that was read; SignStands, of the front of a waiting line; ListStands, of
+--                          the list, with a byte behind it; WordStands, of the list of a word
+--   LineStands text r      a line that was read is the text's first, of its form
+use Rattle.std.specs.Prelude.{◌≡◌, ◌≤◌, [], ◌∷◌, ◌++◌, Option, IfSome}
+use denote.Ref.{Bor}
+use Rattle.theory.specs.Basics.{Bool, ℕ, List, length, take, drop}
 use Rattle.theory.specs.Partition.{Parts}
 use Rattle.theory.specs.Limits.{degree_limit}
-use Rattle.text.specs.Text.{Text, decimal, list_text}
+use Rattle.text.specs.Text.{Text, ascii, decimal, list_text}
 use Rattle.textreading.specs.Reading.{first_line}
 use Rattle.pages.specs.Page.{word_of}
-use Rattle.sessiontext.specs.declared.straight.PartAt.{PartAt}
-use Rattle.sessiontext.specs.declared.straight.ListAt.{ListAt}
-use Rattle.sessiontext.specs.declared.straight.WordAt.{WordAt}
-use Rattle.sessiontext.specs.declared.straight.LineAt.{LineAt}
+use Rattle.sessiontext.specs.SessionText.{sign_text}
 use Rattle.sessiontext.specs.Reading.{line_in}
 use Rattle.sessiontext.specs.Reading.Forms.{InLimit, Waiting}
 
-pub record Stands (t text : Text) (at end : ℕ) : Type 0 where
-  pub fits : end ≤ length text
-  pub whole : drop at text ≡ t ++ drop end text
+abbrev pub PartStands : Text → Option (ℕ × Bor Text) → Type 0
+PartStands text r = IfSome r (λ p. text ≡ decimal p.0 ++ p.1.now)
 
-abbrev pub PartStands : Text → ℕ → PartAt → Type 0
-PartStands text at r = (r.part ≡ 0 → ⊥) → Stands (decimal r.part) text at r.end
+abbrev pub SignStands : Text → Option (Bool × Bor Text) → Type 0
+SignStands text r = IfSome r (λ s. text ≡ (ascii "line=" ++ sign_text s.0 ++ ascii ";") ++ s.1.now)
 
-pub record ListStands (text : Text) (at stop : ℕ) (r : ListAt) (column : List ℕ) : Type 0 where
-  pub inside : r.formed ≡ true → r.count ≤ length column
-  pub stands : r.formed ≡ true → Stands (list_text (take r.count column) ++ stop ∷ []) text at r.end
+abbrev pub ListStands : ℕ → Text → List ℕ → Option (ℕ × Bor Text) → Type 0
+ListStands stop text column r =
+    IfSome r (λ l. (l.0 ≤ length column) × (text ≡ (list_text (take l.0 column) ++ stop ∷ []) ++ l.1.now))
 
-pub record WordStands (word_of : Parts → ℕ) (stop : ℕ) (text : Text) (at : ℕ) (r : WordAt) : Type 0 where
+pub record WordRead (word_of : Parts → ℕ) (stop : ℕ) (text : Text) (word : ℕ) (rest : Text) : Type 0 where
   pub parts : Parts
   pub within : InLimit degree_limit parts
-  pub stands : Stands (list_text parts ++ stop ∷ []) text at r.end
-  pub word : r.word ≡ word_of parts
+  pub stands : text ≡ (list_text parts ++ stop ∷ []) ++ rest
+  pub word_is : word ≡ word_of parts
 
-pub record LineStands (text : Text) (at : ℕ) (r : LineAt) : Type 0 where
-  pub formed : Waiting degree_limit (first_line (drop at text))
-  pub word : r.word ≡ word_of (line_in (first_line (drop at text)))
-  pub ends : r.end ≡ at + length (first_line (drop at text))
+abbrev pub WordStands : (Parts → ℕ) → ℕ → Text → Option (ℕ × Bor Text) → Type 0
+WordStands word_of stop text r = IfSome r (λ w. WordRead word_of stop text w.0 w.1.now)
+
+pub record LineRead (text : Text) (word : ℕ) (rest : Text) : Type 0 where
+  pub formed : Waiting degree_limit (first_line text)
+  pub word_is : word ≡ word_of (line_in (first_line text))
+  pub behind : rest ≡ drop (length (first_line text)) text
+
+abbrev pub LineStands : Text → Option (ℕ × Bor Text) → Type 0
+LineStands text r = IfSome r (λ l. LineRead text l.0 l.1.now)

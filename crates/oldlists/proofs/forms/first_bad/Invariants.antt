@@ -8,5 +8,5 @@ use Rattle.oldlists.proofs.forms.first_bad.Given as goal
 
 abbrev pub invariant-loop-i : goal.invariant-loop-i
 invariant-loop-i l =
-    first_bad (form_checks degree_limit l.old) 0 l.words
-    ≡ first_bad (form_checks degree_limit l.old) l.i (drop l.i l.words)
+    first_bad (form_checks degree_limit l.form) 0 l.words
+    ≡ first_bad (form_checks degree_limit l.form) l.i (drop l.i l.words)

@@ -9,4 +9,4 @@ use Rattle.oldlists.proofs.forms.moved.Goals as goal
 pub write-requires : goal.write-requires
 write-requires c =
     let none = sym (ap (λ (r : ListAnswer). r.refused) c.in_ok-first_bad.ensures) in
-    (c.if-given-lent.false, none-bad (form_checks degree_limit c.args.old) 0 c.args.given.now none)
+    (c.if-given-lent.false, none-bad (form_checks degree_limit c.args.form) 0 c.args.given.now none)

@@ -10,4 +10,4 @@ use Rattle.oldlists.proofs.forms.write.Goals as goal
 pub returns : goal.returns
 returns c =
     let none = none_left c.args.given.now c.loop-i.i c.loop-i-test.false in
-    put_whole _ _ (rw length-map c.requires.0) c.loop-i.invariant (ap (map (other_form c.args.old)) none)
+    put_whole _ _ (rw length-map c.requires.0) c.loop-i.invariant (ap (map (other_form c.args.form)) none)

@@ -6,4 +6,4 @@ use Rattle.oldlists.proofs.forms.write.Given as goal
 
 abbrev pub invariant-loop-i : goal.invariant-loop-i
 invariant-loop-i l =
-    Putting (map (other_form l.old) l.given) l.fn.lent l.lent l.i (map (other_form l.old) (drop l.i l.given))
+    Putting (map (other_form l.form) l.given) l.fn.lent l.lent l.i (map (other_form l.form) (drop l.i l.given))

@@ -1,5 +1,4 @@
--- What is left of the entries goes to the places from i on, and the next of them is what the table has for the next
--- word.
+-- What is left of the entries goes to the places from i on, and the next of them is what the table has for the next word.
 use mir.Facts.{to_z-of_z}
 use mir.Syntax.{w64}
 use Rattle.std.proofs.Common.{◌≡◌, ◌≤◌, ◌<◌, ◌∙◌, ap, arith}
@@ -25,18 +24,15 @@ next table degree words i small same inside =
     next-entry shape_places table degree i listed (omega arith) small (get_or words i 0) word
 
 pub loop-i-init : goal.loop-i-init
-loop-i-init c =
-    put-start _ _ (omega (arith, entries-length shape_places c.args.table.now c.args.degree, c.requires.degree_in_bounds))
+loop-i-init c = put-start _ _ (omega (arith, entries-length shape_places c.args.table.now c.args.degree, c.requires.degree_in_bounds))
 
 pub look-requires : goal.look-requires
 look-requires c =
-    (next c.args.table.now c.args.degree _ _ c.requires.degree_small c.words_of-word-items.ensures
-    c.loop-i-test.true).good
+    (next c.args.table.now c.args.degree _ _ c.requires.degree_small c.words_of-word-items.ensures c.loop-i-test.true).good
 
 pub loop-i-preserved : goal.loop-i-preserved
 loop-i-preserved c =
-    let entry = next c.args.table.now c.args.degree _ _ c.requires.degree_small c.words_of-word-items.ensures
-    c.loop-i-test.true in
+    let entry = next c.args.table.now c.args.degree _ _ c.requires.degree_small c.words_of-word-items.ensures c.loop-i-test.true in
     put_next _ _ c.loop-i.invariant (rw (to_z-of_z {w = w64} (sfits_of c.look.type_inv), c.look.ensures) entry.reads)
 
 pub returns : goal.returns

@@ -7,5 +7,4 @@ use Rattle.classcolumns.proofs.lookup.Places.copy_out.Given as goal
 -- what is left of the entries goes to the places from i on
 abbrev pub invariant-loop-i : goal.invariant-loop-i
 invariant-loop-i l =
-    Putting (entries shape_places l.table l.degree) l.fn.values l.values l.i
-    (drop l.i (entries shape_places l.table l.degree))
+    Putting (entries shape_places l.table l.degree) l.fn.values l.values l.i (drop l.i (entries shape_places l.table l.degree))

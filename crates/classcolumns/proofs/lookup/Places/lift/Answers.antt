@@ -23,8 +23,7 @@ record Next (cycles : Parts) (table : List ℤ) (i n k word : ℕ) : Type 0 wher
   follows : NextWord degree_limit word (get_or cycles i 0)
   lifts : (place : ℕ) (number : ℤ) → place ≡ place_of word
       → number ≡ hook_sum (entry shape_places table) (get_or cycles i 0) word
-      → Lifting shape_places (get_or cycles i 0) (drop (i + 1) cycles) (set table place (carried number))
-      (start n + (k + 1))
+      → Lifting shape_places (get_or cycles i 0) (drop (i + 1) cycles) (set table place (carried number)) (start n + (k + 1))
 
 next : (cycles : Parts) (table : List ℤ) (words : List ℕ) (i n k : ℕ) → Cut degree_limit cycles i n → n ≤ degree_limit
     → words ≡ map shape_word (listing n) → k < length words

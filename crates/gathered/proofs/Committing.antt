@@ -1,6 +1,8 @@
 -- A commit in the gathered mode: each refusal is that of the first check that applies, and what is written is what is
 -- promised.
-use Rattle.std.specs.Prelude.{◌∷◌, ◌++◌, ◌+◌, ◌^◌, ◌+ℤ◌}
+use Rattle.std.specs.Prelude.{◌∷◌, ◌++◌, ◌+◌, ◌^◌, ◌+ℤ◌, Option, None, Some, unwrap_or, is_some}
+use Rattle.std.specs.declared.result.Result.TheVariants.{Ok, Err}
+use Rattle.words.specs.declared.refusal.Refusal.{Refusal}
 use mathlib.Core.Path.{◌≡◌, refl, sym, ◌∙◌, ap, ap₂}
 use mathlib.Core.Bool.{false≢true}
 use mathlib.Core.List.{append_assoc}
@@ -20,7 +22,8 @@ use Rattle.theory.proofs.Bounds.Laws.{S-rises, factorial-rises}
 use Rattle.theory.specs.Limits.{degree_limit, page_limit}
 use Rattle.theory.specs.Refusals.{Check, first_of, no-8, no_9, no-10, no-19}
 use Rattle.theory.proofs.Refusals.Laws.{none-applies, first-refuses, first_passes, or-refused}
-use Rattle.words.specs.Answers.{Outcome}
+use Rattle.words.specs.Answers.{Outcome, number_of}
+use Rattle.words.proofs.Told.{refuses}
 use Rattle.pages.specs.Line.{Line}
 use Rattle.pages.specs.Line.Hooks.{Has}
 use Rattle.pages.specs.Line.Weights.{weight_of}
@@ -34,14 +37,12 @@ use Rattle.pages.specs.Sound.{line_value, page_checks_in}
 use Rattle.pages.specs.Sound.Laws.{SoundLine, SoundIn, line-wider, asked, values}
 use Rattle.pages.specs.Sound.Bounds.{weight-counted, asked-within}
 use Rattle.pages.proofs.Signed.{carried, carried-is}
-use Rattle.sessions.specs.Opening.{Handed}
-use Rattle.sessions.specs.Opening.{handed}
+use Rattle.sessions.specs.Opening.{Handed, handed}
 use Rattle.sessions.specs.Step.{settled_hooks, waiting_hooks, next_lines_in, next_slip_in, commit_checks_in, commit_in}
 use Rattle.sessions.proofs.Step.Gathered.{unlike-waiting}
 use Rattle.sessions.proofs.Step.Named.{Named, settled-room}
 use Rattle.gathered.specs.declared.commits.Struck.{Struck}
-use Rattle.gathered.specs.declared.joining.Joined.{Joined}
-use Rattle.gathered.specs.Private.Joining.{Small, next_of, joined_answer, Joinable, joined_onto}
+use Rattle.gathered.specs.Private.Joining.{Small, next_of, Joinable, joined_onto}
 use Rattle.gathered.specs.Private.Striking.{struck_checks, Hooked, Strikes}
 use Rattle.gathered.proofs.LineSizes.{value-within, small-beside}
 use Rattle.gathered.proofs.HookWeights.{different-waiting, waiting-sizes, lasting-waiting}
@@ -168,137 +169,136 @@ module _ (slip : Slip) (page : List ℕ) (column : List ℤ) (line cycle : ℕ) 
         omega (arith, all_small, at-line (λ y. line_value y ≤ values lines) (value-within lines)),
       )
 
-      module _ {r : Struck} {words : List ℕ} {weights : List ℤ} (k : Strikes cycle l strip r words weights) where
-        pub not-struck : (r.refused ≡ 0 → ⊥) → Outcome promised (handed r.refused slip) lent
-        not-struck some = refused-with r.refused
-            (struck-first ∙ first-refuses (struck_checks cycle l strip) (no-10 next page ∷ [])
-            (λ z. some (k.number ∙ z))
-            ∙ sym k.number) some
+      pub not-struck : {e : Refusal} {words : List ℕ} {weights : List ℤ} → Strikes cycle l strip (Err e) words weights
+          → Outcome promised (handed (number_of e) slip) lent
+      not-struck {e} k = refused-with (number_of e)
+          (struck-first ∙ first-refuses (struck_checks cycle l strip) (no-10 next page ∷ [])
+          (λ z. refuses e (k.number ∙ z))
+          ∙ sym k.number) (refuses e)
 
-        module _ (z : r.refused ≡ 0) where
-          h : Hooked cycle l r words weights
-          h = k.hooked z
+      module _ {r : Struck} {words : List ℕ} {weights : List ℤ} (k : Strikes cycle l strip (Ok r) words weights) where
+        h : Hooked cycle l r words weights
+        h = k.hooked
 
-          passed : first_of (struck_checks cycle l strip) ≡ 0
-          passed = sym k.number ∙ z
+        passed : first_of (struck_checks cycle l strip) ≡ 0
+        passed = sym k.number
 
-          has : Has cycle l
-          has = eqb-false (times cycle (class_of l.class)) 0
-              (none-applies (struck_checks cycle l strip) refl passed).0
+        has : Has cycle l
+        has = eqb-false (times cycle (class_of l.class)) 0
+            (none-applies (struck_checks cycle l strip) refl passed).0
 
-          named : Named degree_limit slip lines line cycle
-          named = record { soundness = soundness.lines; there = inside; has = rw line-is has }
+        named : Named degree_limit slip lines line cycle
+        named = record { soundness = soundness.lines; there = inside; has = rw line-is has }
 
-          abbrev hook-words : List ℕ
-          hook-words = take r.count words
+        abbrev hook-words : List ℕ
+        hook-words = take r.count words
 
-          abbrev hook-weights : List ℤ
-          hook-weights = take r.count weights
+        abbrev hook-weights : List ℤ
+        hook-weights = take r.count weights
 
-          pub words_long : length hook-words ≡ r.count
-          words_long = length-take-le r.count words (omega (arith, h.few, h.long))
+        pub words_long : length hook-words ≡ r.count
+        words_long = length-take-le r.count words (omega (arith, h.few, h.long))
 
-          pub weights-long : length hook-weights ≡ r.count
-          weights-long = length-take-le r.count weights (omega (arith, h.few, h.long-weights))
+        pub weights-long : length hook-weights ≡ r.count
+        weights-long = length-take-le r.count weights (omega (arith, h.few, h.long-weights))
 
-          pub fits-words : r.count ≤ length words
-          fits-words = omega (arith, h.few, h.long)
+        pub fits-words : r.count ≤ length words
+        fits-words = omega (arith, h.few, h.long)
 
-          pub fits-weights : r.count ≤ length weights
-          fits-weights = omega (arith, h.few, h.long-weights)
+        pub fits-weights : r.count ≤ length weights
+        fits-weights = omega (arith, h.few, h.long-weights)
 
-          lasts : lasting l ≡ true
-          lasts = at-line (λ y. lasting y ≡ true)
-              (every-each lasting lines (both (distinct lines) (every lasting lines) soundness.stands).1)
+        lasts : lasting l ≡ true
+        lasts = at-line (λ y. lasting y ≡ true)
+            (every-each lasting lines (both (distinct lines) (every lasting lines) soundness.stands).1)
 
-          pub joinable : Joinable page column line slip.lines hook-words hook-weights
-          joinable =
-              let s = strikable.0 in
-              let b = both (distinct lines) (every lasting lines) soundness.stands in
-              record {
-                there = there;
-                fit = soundness.fit;
-                short = lengths.0;
-                as_long = lengths.1;
-                idle = soundness.idle;
-                weighed = words_long ∙ sym weights-long;
-                few = omega (arith, words_long, h.few);
-                small = small-lines;
-                small-weights = small-beside hook-words hook-weights (words_long ∙ sym weights-long)
-                    (rw h.lines (each_same _ (λ y. nat_abs y.weight < 2 ^ 58) (waiting_hooks cycle l)
-                    (λ y p. omega (arith, p, weight-counted l, strikable.1)) (waiting-sizes cycle l s has)));
-                different-lines = b.0;
-                lasting-lines = b.1;
-                different-hooks = rw h.lines (different-waiting cycle l s has);
-                lasting-hooks = rw h.lines (lasting-waiting cycle l s has lasts);
-                unlike-struck = rw (h.lines, line-is) (unlike-waiting cycle l s has);
-              }
+        pub joinable : Joinable page column line slip.lines hook-words hook-weights
+        joinable =
+            let s = strikable.0 in
+            let b = both (distinct lines) (every lasting lines) soundness.stands in
+            record {
+              there = there;
+              fit = soundness.fit;
+              short = lengths.0;
+              as_long = lengths.1;
+              idle = soundness.idle;
+              weighed = words_long ∙ sym weights-long;
+              few = omega (arith, words_long, h.few);
+              small = small-lines;
+              small-weights = small-beside hook-words hook-weights (words_long ∙ sym weights-long)
+                  (rw h.lines (each_same _ (λ y. nat_abs y.weight < 2 ^ 58) (waiting_hooks cycle l)
+                  (λ y p. omega (arith, p, weight-counted l, strikable.1)) (waiting-sizes cycle l s has)));
+              different-lines = b.0;
+              lasting-lines = b.1;
+              different-hooks = rw h.lines (different-waiting cycle l s has);
+              lasting-hooks = rw h.lines (lasting-waiting cycle l s has lasts);
+              unlike-struck = rw (h.lines, line-is) (unlike-waiting cycle l s has);
+            }
 
-          next-is : next_of page column line slip.lines hook-words hook-weights ≡ next
-          unfolding next_lines_in
-          next-is = rw (h.lines, line-is)
+        next-is : next_of page column line slip.lines hook-words hook-weights ≡ next
+        unfolding next_lines_in
+        next-is = rw (h.lines, line-is)
 
-          struck-passes : first_of all ≡ first_of (no-10 next page ∷ [])
-          struck-passes = struck-first ∙ first_passes (struck_checks cycle l strip) (no-10 next page ∷ []) refl passed
+        struck-passes : first_of all ≡ first_of (no-10 next page ∷ [])
+        struck-passes = struck-first ∙ first_passes (struck_checks cycle l strip) (no-10 next page ∷ []) refl passed
 
-          -- ---- room in 64 bits
-          sum_is : r.settled ≡ sum weight_of (settled_hooks cycle (line_at lines line))
-          sum_is = h.settled ∙ ap (λ (y : Line). sum weight_of (settled_hooks cycle y)) (sym line-is)
+        -- ---- room in 64 bits
+        sum_is : r.settled ≡ sum weight_of (settled_hooks cycle (line_at lines line))
+        sum_is = h.settled ∙ ap (λ (y : Line). sum weight_of (settled_hooks cycle y)) (sym line-is)
 
-          settled-small : nat_abs slip.settled + nat_abs r.settled < 2 ^ 58
-          unfolding factorial
-          settled-small = omega (
+        settled-small : nat_abs slip.settled + nat_abs r.settled < 2 ^ 58
+        unfolding factorial
+        settled-small = omega (
+          arith,
+          ap nat_abs sum_is,
+          settled-room gathered-lawful degree_limit slip lines line cycle named,
+          factorial-rises (asked slip) degree_limit (asked-within degree_limit slip lines soundness.lines),
+        )
+
+        sum-carried : carried r.settled ≡ r.settled
+        sum-carried = carried-is r.settled (omega (arith, settled-small))
+
+        pub slip-fits : (nat_abs slip.settled + nat_abs (carried r.settled) < 2 ^ 63)
+            × (nat_abs slip.steps + 1 < 2 ^ 63)
+        unfolding S
+        slip-fits = (
+          rw sum-carried (omega (arith, settled-small)),
+          omega (
             arith,
-            ap nat_abs sum_is,
-            settled-room gathered-lawful degree_limit slip lines line cycle named,
-            factorial-rises (asked slip) degree_limit (asked-within degree_limit slip lines soundness.lines),
-          )
+            soundness.lines.span,
+            S-rises (asked slip) degree_limit (asked-within degree_limit slip lines soundness.lines),
+          ),
+        )
 
-          sum-carried : carried r.settled ≡ r.settled
-          sum-carried = carried-is r.settled (omega (arith, settled-small))
+        -- ---- what is left
+        abbrev joins : Bool → Option ℕ × (List ℕ × List ℤ)
+        joins b = cond b (None, lent) (Some (length next), gathered_mode.put next lent)
 
-          pub slip-fits : (nat_abs slip.settled + nat_abs (carried r.settled) < 2 ^ 63)
-              × (nat_abs slip.steps + 1 < 2 ^ 63)
-          unfolding S
-          slip-fits = (
-            rw sum-carried (omega (arith, settled-small)),
-            omega (
-              arith,
-              soundness.lines.span,
-              S-rises (asked slip) degree_limit (asked-within degree_limit slip lines soundness.lines),
-            ),
-          )
+        module _ {j : Option ℕ} {left : List ℕ × List ℤ}
+            (o : Outcome (joined_onto page column line slip.lines hook-words hook-weights) j left) where
+          outcome : Outcome (joins (length page <? length next)) j left
+          unfolding joined_onto
+          outcome = rw next-is at o
 
-          -- ---- what is left
-          abbrev joins : Bool → Joined × (List ℕ × List ℤ)
-          joins b = cond b (joined_answer true 0, lent) (joined_answer false (length next), gathered_mode.put next lent)
+          pub full : j ≡ None → Outcome promised (handed 10 slip) left
+          full e = go (length page <? length next) refl outcome
+            where
+              go : (b : Bool) → length page <? length next ≡ b → Outcome (joins b) j left
+                  → Outcome promised (handed 10 slip) left
+              go true t p = rw p.leaves
+                  (refused-with 10 (struck-passes ∙ ap (λ (b : Bool). cond b 10 0) t) (λ f. omega arith))
+              go false t p = absurd (false≢true (ap is_some (sym e ∙ p.answers)))
 
-          module _ {j : Joined} {left : List ℕ × List ℤ}
-              (o : Outcome (joined_onto page column line slip.lines hook-words hook-weights) j left) where
-            outcome : Outcome (joins (length page <? length next)) j left
-            unfolding joined_onto
-            outcome = rw next-is at o
-
-            pub full : j.full ≡ true → Outcome promised (handed 10 slip) left
-            full e = go (length page <? length next) refl outcome
-              where
-                go : (b : Bool) → length page <? length next ≡ b → Outcome (joins b) j left
-                    → Outcome promised (handed 10 slip) left
-                go true t p = rw p.leaves
-                    (refused-with 10 (struck-passes ∙ ap (λ (b : Bool). cond b 10 0) t) (λ f. omega arith))
-                go false t p = absurd (false≢true (sym (ap (λ (y : Joined). y.full) p.answers) ∙ e))
-
-            pub done : j.full ≡ false → (after : Slip)
-                → after ≡ slip_of slip.shape slip.class (slip.settled +ℤ carried r.settled) j.lines
-                (slip.steps +ℤ pos 1) slip.mode
-                → Outcome promised (handed 0 after) left
-            unfolding commit_in next_slip_in
-            done e after is = go (length page <? length next) refl outcome
-              where
-                go : (b : Bool) → length page <? length next ≡ b → Outcome (joins b) j left
-                    → Outcome promised (handed 0 after) left
-                go true t p = absurd (false≢true (sym e ∙ ap (λ (y : Joined). y.full) p.answers))
-                go false t p =
-                    let count : j.lines ≡ length next = ap (λ (y : Joined). y.lines) p.answers in
-                    rw (struck-passes ∙ ap (λ (b : Bool). cond b 10 0) t)
-                    (record { answers = ap (handed 0) (is ∙ rw (sum-carried, sum_is, count) refl); leaves = p.leaves })
+          pub done : {n : ℕ} → j ≡ Some n → (after : Slip)
+              → after ≡ slip_of slip.shape slip.class (slip.settled +ℤ carried r.settled) n (slip.steps +ℤ pos 1) slip.mode
+              → Outcome promised (handed 0 after) left
+          unfolding commit_in next_slip_in
+          done {n} e after is = go (length page <? length next) refl outcome
+            where
+              go : (b : Bool) → length page <? length next ≡ b → Outcome (joins b) j left
+                  → Outcome promised (handed 0 after) left
+              go true t p = absurd (false≢true (ap is_some (sym p.answers ∙ e)))
+              go false t p =
+                  let count : n ≡ length next = ap (λ (m : Option ℕ). unwrap_or m 0) (sym e ∙ p.answers) in
+                  rw (struck-passes ∙ ap (λ (b : Bool). cond b 10 0) t)
+                  (record { answers = ap (handed 0) (is ∙ rw (sum-carried, sum_is, count) refl); leaves = p.leaves })

@@ -1,20 +1,20 @@
 -- Whether hook lines have room: as many lines come of them as there are lines but one and hook lines, less those that
 -- are spared.
-use Rattle.std.specs.Prelude.{◌+◌, ◌-◌}
+use Rattle.std.specs.Prelude.{◌+◌, ◌-◌, None, Some}
 use mathlib.Core.Path.{◌≡◌, refl, sym, ◌∙◌, ap}
 use Prim.Native.Nat.{◌≤◌, ◌<◌}
 use native.Mathlib.Omega.{arith}
 use borrow.Author.Tests.{lt-ltb, le-ltb}
 use lib.ListN.{length-map}
 use lib.Seq.{length-take-le, sets, sets-eq, take_at}
-use Rattle.theory.specs.Basics.{true, false, List, map, length, take, ℕ, ℤ}
+use Rattle.theory.specs.Basics.{List, map, length, take, ℕ, ℤ}
 use Rattle.theory.specs.Limits.{degree_limit}
 use Rattle.words.specs.Answers.{Outcome}
 use Rattle.pages.specs.Line.{Line}
 use Rattle.pages.specs.Mode.{alongside}
 use Rattle.pages.specs.Lawful.Gathered.{length-alongside}
 use Rattle.gathered.specs.Private.Joining.{place, saved_by, lines_before, next_of, putting}
-use Rattle.gathered.specs.Private.Joining.{joined_answer, Joinable}
+use Rattle.gathered.specs.Private.Joining.{Joinable}
 use Rattle.gathered.specs.Private.Joining.{Joins}
 use Rattle.gathered.specs.Private.Joining.{joined_onto}
 use Rattle.gathered.proofs.Counted.{next-count}
@@ -73,7 +73,7 @@ module _ (page : List ℕ) (column : List ℤ) (line lines : ℕ) (words : List 
 
       -- ---- a page that is too full, and one that is not
       pub too-full : length page + saved < lines - 1 + length words
-          → Outcome (joined_onto page column line lines words weights) (joined_answer true 0) (page, column)
+          → Outcome (joined_onto page column line lines words weights) None (page, column)
       unfolding joined_onto
       too-full less = rw (lt-ltb (length page) (length next) (omega (arith, counts)))
           (record { answers = refl; leaves = refl })
@@ -84,7 +84,7 @@ module _ (page : List ℕ) (column : List ℤ) (line lines : ℕ) (words : List 
 
         pub joined-all : {r : ℕ} {left : List ℕ × List ℤ}
             → Outcome (putting next page column) r left
-            → Outcome (joined_onto page column line lines words weights) (joined_answer false r) left
+            → Outcome (joined_onto page column line lines words weights) (Some r) left
         unfolding joined_onto
         joined-all o = rw (le-ltb (length page) (length next) (omega (arith, counts)))
-            (record { answers = ap (joined_answer false) o.answers; leaves = o.leaves })
+            (record { answers = ap Some o.answers; leaves = o.leaves })

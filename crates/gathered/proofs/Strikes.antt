@@ -25,7 +25,10 @@ use Rattle.theory.proofs.ClassWord.Laws.{good-class}
 use Rattle.theory.specs.Refusals.{Check, first_of, no-8, no_9, no-10, no-19}
 use Rattle.theory.proofs.Refusals.Laws.{none-applies, first-refuses, first_passes, both-pass, answer-number}
 use Rattle.theory.proofs.Refusals.Laws.{answer-given}
-use Rattle.words.specs.Answers.{Outcome}
+use Rattle.std.specs.declared.result.Result.TheVariants.{Ok, Err}
+use Rattle.words.specs.declared.refusal.Refusal.{Refusal}
+use Rattle.words.specs.Answers.{Outcome, number_of}
+use Rattle.words.proofs.Told.{refuses}
 use Rattle.words.proofs.Factorials.{factorial-fits}
 use Rattle.pages.specs.Line.{Line, line_degree}
 use Rattle.pages.specs.Line.Hooks.{Has, hook-line-class}
@@ -40,8 +43,7 @@ use Rattle.pages.specs.Sound.{line_value, page_checks}
 use Rattle.pages.specs.Sound.Laws.{SoundLine}
 use Rattle.pages.proofs.Signed.{carried, carried-is}
 use Rattle.characters.proofs.LineValues.{word_value}
-use Rattle.sessions.specs.Opening.{Handed}
-use Rattle.sessions.specs.Opening.{handed}
+use Rattle.sessions.specs.Opening.{Handed, handed}
 use Rattle.sessions.specs.Step.{settled_hooks, waiting_hooks, next_lines_in, next_slip_in, commit_in}
 use Rattle.sessions.specs.Step.{next_lines, next_slip, commit_checks, commit}
 use Rattle.sessions.proofs.Step.Strike.{each-waiting, strike-value}
@@ -54,8 +56,8 @@ use Rattle.gathered.proofs.Alone.{paged, own_line, own-sound, alone-passes}
 use Rattle.gathered.proofs.HookWeights.{settled-times, waiting-words, waiting-weights}
 use Rattle.gathered.proofs.Squeezing.{length-words}
 
-abbrev struck_of : ℕ → ℕ → ℤ → Struck
-struck_of k n z = record { refused = k; count = n; settled = z }
+abbrev struck_of : ℕ → ℤ → Struck
+struck_of n z = record { count = n; settled = z }
 
 module _ (x : ℕ) (z : ℤ) (s : SoundLine degree_limit (weighted x z)) (cycle : ℕ) (strip : List ℕ) where
   abbrev l : Line
@@ -122,16 +124,19 @@ module _ (x : ℕ) (z : ℤ) (s : SoundLine degree_limit (weighted x z)) (cycle 
         (h, left) whole
         ∙ passed
 
-    pub strike-refused : (h.refused ≡ 0 → ⊥) → (words : List ℕ) (weights : List ℤ)
-        → Strikes cycle l strip (struck_of h.refused 0 (pos 0)) words weights
-    strike-refused some words weights = record {
-      number = elim (ℕ_discrete (first_of (struck_checks cycle l strip)) 0) [
-        | yes e ↦
-            let has = (none-applies (struck_checks cycle l strip) refl e).0 in
-            absurd (some (number ∙ first_passes (struck_checks cycle l strip) last refl e ∙ no_room has))
+    some : (e : Refusal) → h.refused ≡ number_of e → h.refused ≡ 0 → ⊥
+    some e is z = refuses e (sym is ∙ z)
+
+    pub strike-refused : {e : Refusal} → h.refused ≡ number_of e → (words : List ℕ) (weights : List ℤ)
+        → Strikes cycle l strip (Err e) words weights
+    strike-refused {e} is words weights = record {
+      number = sym is ∙ elim (ℕ_discrete (first_of (struck_checks cycle l strip)) 0) [
+        | yes z ↦
+            let has = (none-applies (struck_checks cycle l strip) refl z).0 in
+            absurd (some e is (number ∙ first_passes (struck_checks cycle l strip) last refl z ∙ no_room has))
         | no n ↦ number ∙ first-refuses (struck_checks cycle l strip) last n
       ];
-      hooked = λ e. absurd (some e);
+      hooked = tt;
     }
 
     module _ (z-is : h.refused ≡ 0) where
@@ -263,10 +268,10 @@ module _ (x : ℕ) (z : ℤ) (s : SoundLine degree_limit (weighted x z)) (cycle 
             → (words ≡ sets words₀ 0 (map cleared (take h.slip.lines left)))
             × (weights ≡ sets weights₀ 0 (map (turned (carried z)) (take h.slip.lines left)))
             → k ≡ carried z *ℤ carried h.slip.settled
-            → Strikes cycle l strip (struck_of 0 h.slip.lines (carried k)) words weights
+            → Strikes cycle l strip (Ok (struck_of h.slip.lines (carried k))) words weights
         strike-done words₀ words weights₀ weights k long long-weights put product = record {
           number = sym none;
-          hooked = λ e. record {
+          hooked = record {
             count = count-hooks;
             settled = times-is k product;
             few = fewer;

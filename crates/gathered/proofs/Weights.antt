@@ -53,9 +53,9 @@ module _ {limit : ℕ} (x : ℕ) (z : ℤ) (s : SoundLine limit (weighted x z)) 
       abbrev number : ℤ
       number = shape_of line.shape on class_of line.class
 
-      gives : a.number ≡ number
+      given : a ≡ number_answer 0 number
       unfolding character_of
-      gives =
+      given =
           let same : (line_of x).shape ≡ line.shape = ap (λ (l : Line). l.shape) (own_line x z s) in
           let none : first_of (pair_checks limit line.shape line.class) ≡ 0 =
           pair-passes
@@ -67,9 +67,13 @@ module _ {limit : ℕ} (x : ℕ) (z : ℤ) (s : SoundLine limit (weighted x z)) 
             };
             degrees = s.degrees;
           }) in
-          ap (λ (k : NumberAnswer). k.number) e
-          ∙ rw (its_shape ∙ same, its-class)
-          (ap (λ (k : NumberAnswer). k.number) (or-given (λ k. number_answer k (pos 0)) _ _ none))
+          e ∙ rw (its_shape ∙ same, its-class) (or-given (λ k. number_answer k (pos 0)) _ _ none)
+
+      pub unrefused : a.refused ≡ 0
+      unrefused = ap (λ (k : NumberAnswer). k.refused) given
+
+      gives : a.number ≡ number
+      gives = ap (λ (k : NumberAnswer). k.number) given
 
       number-carried : carried a.number ≡ number
       number-carried =

@@ -5,24 +5,22 @@ ghost use Rattle.std.specs.Prelude.{◌≡◌, ◌+◌, ◌≤◌, ◌<◌, ◌^
 ghost use Rattle.std.proofs.lemmas.List.Edits.{sets};
 ghost use Rattle.theory.specs.Basics.{map, length, signed};
 ghost use Rattle.theory.specs.Limits.{degree_limit};
-ghost use Rattle.theory.specs.Refusals.{first_of};
-ghost use Rattle.words.specs.Answers.{Outcome};
+ghost use Rattle.words.specs.Answers.{Outcome, told};
 ghost use Rattle.pages.specs.Page.{slip_of};
 ghost use Rattle.pages.specs.Mode.{weighted, gathered_mode};
-ghost use Rattle.pages.specs.Sound.{line_value, page_checks_in};
+ghost use Rattle.pages.specs.Sound.{line_value};
 ghost use Rattle.pages.specs.Sound.Laws.{SoundLine};
+ghost use Rattle.sessions.specs.Opening.{handed};
 ghost use Rattle.sessions.specs.Step.{commit_in};
 ghost use Rattle.gathered.specs.Private.Striking.{cleared, turned, Strikes};
 
 use super::{joining, numbers, own};
-use pages::Slip;
-use sessions::Handed;
+use pages::{Slip, gathering};
+use words::Refusal;
 
-// What comes of a line that is struck: why cycle or strip are refused, or how many of its hook lines wait, and the sum
-// of the weights of the others.
-#[derive(Clone, Copy)]
+// What comes of a line that is struck: how many of its hook lines wait, and the sum of the weights of the others.
+#[derive(Clone, Copy, Debug, PartialEq, Eq)]
 struct Struck {
-    refused: u8,
     count: usize,
     settled: i64,
 }
@@ -58,7 +56,7 @@ fn strike(
     strip: &[u64],
     words: &mut [u64],
     weights: &mut [i64],
-) -> Struck
+) -> Result<Struck, Refusal>
     requires { SoundLine degree_limit (weighted word coefficient) × (line_value (weighted word coefficient) < 2 ^ 58)
         × (length words.old ≡ degree_limit) × (length weights.old ≡ degree_limit) }
     ensures { Strikes cycle (weighted word coefficient) strip.now result words.new
@@ -66,22 +64,16 @@ fn strike(
 {
     let mut own = [0u64; words::LIMIT as usize];
     own[0] = word;
-    let done = sessions::commit(own::alone(word), &mut own, 0, cycle, strip);
-    if done.refused != 0 {
-        return Struck {
-            refused: done.refused,
-            count: 0,
-            settled: 0,
-        };
-    }
-    let after = done.slip;
+    let after = match sessions::commit(own::alone(word), &mut own, 0, cycle, strip) {
+        Ok(after) => after,
+        Err(refused) => return Err(refused.refusal),
+    };
     let count = after.lines;
     weigh(&own[..count], coefficient, words, weights);
-    Struck {
-        refused: 0,
+    Ok(Struck {
         count,
         settled: numbers::times(coefficient, after.settled),
-    }
+    })
 }
 
 // The slip after a step that settles a sum and leaves so many lines.
@@ -100,29 +92,23 @@ fn next_slip(slip: Slip, settled: i64, lines: usize) -> Slip
     }
 }
 
-// A commit of slip, page and coefficients that are refused with this number, 0 where they are not. Refuses that, then
-// 8, 9, 19, 10.
+// A commit: the slip after it, or why it is refused: 6, 21, 7, 8, 9, 19, 10.
 pub fn committed(
-    refused: u8,
     slip: Slip,
     page: &mut [u64],
     coefficients: &mut [i64],
     line: usize,
     cycle: u64,
     strip: &[u64],
-) -> Handed
-    requires { refused
-        ≡ first_of (page_checks_in gathered_mode degree_limit slip (page.old, coefficients.old)) }
+) -> Result<Slip, Refusal>
     ensures { Outcome (commit_in gathered_mode degree_limit slip
-        (page.old, coefficients.old) line cycle strip.now) result
+        (page.old, coefficients.old) line cycle strip.now) (told handed slip result)
         (page.new, coefficients.new) }
 {
-    if refused != 0 {
-        return Handed { refused, slip };
-    }
+    gathering::refusal(slip, &page[..], &coefficients[..])?;
     let lines = slip.lines;
     if lines <= line {
-        return Handed { refused: 8, slip };
+        return Err(Refusal::NoSuchLine);
     }
     let mut words = [0u64; words::LIMIT as usize];
     let mut weights = [0i64; words::LIMIT as usize];
@@ -133,13 +119,7 @@ pub fn committed(
         strip,
         &mut words,
         &mut weights,
-    );
-    if struck.refused != 0 {
-        return Handed {
-            refused: struck.refused,
-            slip,
-        };
-    }
+    )?;
     let count = struck.count;
     let joined = joining::join_hooks(
         page,
@@ -149,11 +129,6 @@ pub fn committed(
         &words[..count],
         &weights[..count],
     );
-    if joined.full {
-        return Handed { refused: 10, slip };
-    }
-    Handed {
-        refused: 0,
-        slip: next_slip(slip, struck.settled, joined.lines),
-    }
+    let left = joined.ok_or(Refusal::PageFull)?;
+    Ok(next_slip(slip, struck.settled, left))
 }

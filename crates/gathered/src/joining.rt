@@ -9,14 +9,6 @@ ghost use Rattle.words.specs.Answers.{Outcome};
 ghost use Rattle.gathered.specs.Private.Joining.{place, Small, saved_at, saved_by, raised, picked, kept, stayed};
 ghost use Rattle.gathered.specs.Private.Joining.{putting, Joinable, Joins, next_of, joined_onto};
 
-// What comes of hook lines that are joined to lines: whether the page is too full for them, or how many lines there
-// are.
-#[derive(Clone, Copy)]
-pub struct Joined {
-    pub full: bool,
-    pub lines: usize,
-}
-
 // The place of the first word of a page that is equal to a word, and the number of words where none is.
 fn find(page: &[u64], word: u64) -> usize
     ensures { result ≡ place page.now word }
@@ -174,7 +166,8 @@ fn join(
     append(page, column, stay, lines, places, words, weights)
 }
 
-// Hook lines, as many as a line can have, come to the lines of a page without the struck one, if there is room.
+// Hook lines, as many as a line can have, come to the lines of a page without the struck one, if there is room; the
+// answer is how many lines there are.
 pub fn join_hooks(
     page: &mut [u64],
     column: &mut [i64],
@@ -182,7 +175,7 @@ pub fn join_hooks(
     lines: usize,
     words: &[u64],
     weights: &[i64],
-) -> Joined
+) -> Option<usize>
     requires { Joinable page.old column.old line lines words.now weights.now }
     ensures { Outcome (joined_onto page.old column.old line lines words.now
         weights.now) result (page.new, column.new) }
@@ -192,14 +185,8 @@ pub fn join_hooks(
     let count = words.len();
     let saved = saved_by_all(&column[..lines], &places[..count], weights);
     if page.len() + saved < lines - 1 + count {
-        return Joined {
-            full: true,
-            lines: 0,
-        };
+        return None;
     }
     let left = join(page, column, line, lines, &places[..count], words, weights);
-    Joined {
-        full: false,
-        lines: left,
-    }
+    Some(left)
 }

@@ -7,17 +7,16 @@
 ghost use Rattle.std.specs.Prelude.{◌≡◌};
 ghost use Rattle.theory.specs.Refusals.{first_of};
 ghost use Rattle.theory.specs.Limits.{degree_limit};
-ghost use Rattle.words.specs.Answers.{Outcome};
-ghost use Rattle.pages.specs.Page.{blank};
+ghost use Rattle.words.specs.Answers.{Outcome, count_told, refusal_of};
 ghost use Rattle.pages.specs.Mode.{gathered_mode};
-ghost use Rattle.sessions.specs.Opening.{handed, opening_in};
+ghost use Rattle.sessions.specs.Opening.{handed_told, opening_in};
 ghost use Rattle.sessions.specs.Step.{preview_in, commit_in};
 ghost use Rattle.characters.specs.Watch.{reads, watch_checks_in, watch_in};
 
 use characters::{Watched, watches};
-use pages::{BLANK, GATHERED, PAGE_LIMIT, Slip, gathering};
-use sessions::Handed;
-use words::CountAnswer;
+use pages::{GATHERED, PAGE_LIMIT, Slip, gathering};
+use sessions::Refused;
+use words::Refusal;
 
 mod columns;
 mod commits;
@@ -26,40 +25,28 @@ mod lines;
 mod numbers;
 mod own;
 
-// A refused opening.
-fn unopened(number: u8) -> Handed
-    ensures { result ≡ handed number blank }
-{
-    Handed {
-        refused: number,
-        slip: BLANK,
-    }
-}
-
 // Opens a session of a shape on a class as in the plain mode; its line has the coefficient 1, and zeros come after it.
 // Refuses 1, 3, 2, 4, 5, then 6, 21, 10.
-pub fn open(shape: u32, class: u32, page: &mut [u64], coefficients: &mut [i64]) -> Handed
+pub fn open(
+    shape: u32,
+    class: u32,
+    page: &mut [u64],
+    coefficients: &mut [i64],
+) -> Result<Slip, Refused>
     ensures { Outcome (opening_in gathered_mode degree_limit shape class
-        (page.old, coefficients.old)) result (page.new, coefficients.new) }
+        (page.old, coefficients.old)) (handed_told result) (page.new, coefficients.new) }
 {
-    let pair = pairs::common_degree(shape, class);
-    if pair.refused != 0 {
-        return unopened(pair.refused);
-    }
+    pairs::common_degree(shape, class)?;
     if PAGE_LIMIT < page.len() {
-        return unopened(6);
+        return Err(Refused::from(Refusal::PageTooLong));
     }
     if page.len() != coefficients.len() {
-        return unopened(21);
+        return Err(Refused::from(Refusal::BadCoefficients));
     }
-    let opened = sessions::open(shape, class, page);
-    if opened.refused != 0 { // there is no room
-        return opened;
-    }
-    let mut slip = opened.slip;
+    let mut slip = sessions::open(shape, class, page)?; // there may be no room
     columns::begin(coefficients, slip.lines);
     slip.mode = GATHERED;
-    Handed { refused: 0, slip }
+    Ok(slip)
 }
 
 // The new lines of a named line and cycle, in hook order and without coefficients, to the front of a strip; their count
@@ -71,19 +58,13 @@ pub fn preview(
     line: usize,
     cycle: u64,
     strip: &mut [u64],
-) -> CountAnswer
+) -> Result<usize, Refusal>
     ensures { Outcome (preview_in gathered_mode degree_limit slip
-        (page.now, coefficients.now) line cycle strip.old) result strip.new }
+        (page.now, coefficients.now) line cycle strip.old) (count_told result) strip.new }
 {
-    let refused = gathering::refusal(slip, page, coefficients);
-    if refused != 0 {
-        return CountAnswer { refused, count: 0 };
-    }
+    gathering::refusal(slip, page, coefficients)?;
     if slip.lines <= line { // no such line
-        return CountAnswer {
-            refused: 8,
-            count: 0,
-        };
+        return Err(Refusal::NoSuchLine);
     }
     let word = page[line];
     let alone = [word];
@@ -92,7 +73,7 @@ pub fn preview(
 
 // Finishes a step whose preview the front of the strip is: the line is taken out, its hook lines that wait are joined
 // to the lines equal to them or come at the end, each with the line's coefficient times its own sign, and lines whose
-// coefficient became 0 are taken out. Refuses 6, 21, 7, 8, 9, then 19, 10.
+// coefficient became 0 are taken out. Refuses 6, 21, 7, 8, 9, then 19, 10, and hands back the slip that it was given.
 pub fn commit(
     slip: Slip,
     page: &mut [u64],
@@ -100,24 +81,29 @@ pub fn commit(
     line: usize,
     cycle: u64,
     strip: &[u64],
-) -> Handed
+) -> Result<Slip, Refused>
     ensures { Outcome (commit_in gathered_mode degree_limit slip
-        (page.old, coefficients.old) line cycle strip.now) result
+        (page.old, coefficients.old) line cycle strip.now) (handed_told result)
         (page.new, coefficients.new) }
 {
-    let refused = gathering::refusal(slip, &page[..], &coefficients[..]);
-    commits::committed(refused, slip, page, coefficients, line, cycle, strip)
+    match commits::committed(slip, page, coefficients, line, cycle, strip) {
+        Ok(after) => Ok(after),
+        Err(refusal) => Err(Refused { refusal, slip }),
+    }
 }
 
-// Why a watch is refused, 0 where it is not: 6, 21, 7, 15, 8.
-fn watch_refusal(slip: Slip, page: &[u64], coefficients: &[i64], kind: u64, line: usize) -> u8
-    ensures { result ≡ first_of (watch_checks_in gathered_mode degree_limit slip
+// Why a watch is refused: 6, 21, 7, 15, 8.
+fn watch_refusal(
+    slip: Slip,
+    page: &[u64],
+    coefficients: &[i64],
+    kind: u64,
+    line: usize,
+) -> Result<(), Refusal>
+    ensures { refusal_of result ≡ first_of (watch_checks_in gathered_mode degree_limit slip
         (page.now, coefficients.now) kind line) }
 {
-    let refused = gathering::refusal(slip, page, coefficients);
-    if refused != 0 {
-        return refused;
-    }
+    gathering::refusal(slip, page, coefficients)?;
     watches::kind_refusal(kind, slip.lines, line)
 }
 
@@ -127,9 +113,8 @@ pub fn watch(slip: Slip, page: &[u64], coefficients: &[i64], kind: u64, line: us
     ensures { reads result ≡ watch_in gathered_mode degree_limit slip
         (page.now, coefficients.now) kind line }
 {
-    let refused = watch_refusal(slip, page, coefficients, kind, line);
-    if refused != 0 {
-        return Watched::Refused(refused);
+    if let Err(refusal) = watch_refusal(slip, page, coefficients, kind, line) {
+        return Watched::Refused(refusal.number());
     }
     let lines = slip.lines;
     match kind {

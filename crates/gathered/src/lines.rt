@@ -16,7 +16,7 @@ pub fn signed_character(line: u64, coefficient: i64) -> i64
         × (line_value (weighted line coefficient) < 2 ^ 63) }
     ensures { result ≡ signed_character (weighted line coefficient) }
 {
-    let number = character(linewords::shape(line), linewords::class(line)).number;
+    let number = character(linewords::shape(line), linewords::class(line)).unwrap();
     numbers::times(coefficient, number)
 }
 

@@ -8,15 +8,14 @@
 --   stayed ..              the lines with the weights added, without the struck one and those that became 0
 --   putting ls page column the number of the lines ls, and what they leave of page and column written down there
 --   picked n ps xs         those of xs whose place is n
---   joined_answer full n    the answer by its fields
 --   spares lines h         how many lines the hook line h spares, by the lines themselves
 --   lines_before, rest_of    the lines of the page, and those without the struck one; next_of, with the hook lines joined
 --                          to them
 --   Joinable ..            what is asked of hook lines that are joined to the lines of a page; Joins .., the same with
 --                          their places and the room
 --   joined_onto ..          what is told and left of page and column where they are joined, if there is room
-use Rattle.std.specs.Prelude.{◌≡◌, ◌≤◌, ◌<◌, ◌∷◌, ◌++◌, ◌+◌, ◌*◌, ◌^◌, ◌+ℤ◌}
-use Rattle.theory.specs.Basics.{Bool, true, false, cond, List, [], map, length, get_or, set, take, drop, ℕ}
+use Rattle.std.specs.Prelude.{◌≡◌, ◌≤◌, ◌<◌, ◌∷◌, ◌++◌, ◌+◌, ◌*◌, ◌^◌, ◌+ℤ◌, Option, None, Some}
+use Rattle.theory.specs.Basics.{true, cond, List, [], map, length, get_or, set, take, drop, ℕ}
 use Rattle.theory.specs.Basics.{suc}
 use Rattle.theory.specs.Basics.{ℤ, pos, nat_abs, ◌=?◌, ◌<?◌, keep, every, Each}
 use Rattle.theory.specs.Limits.{degree_limit, page_limit}
@@ -25,7 +24,6 @@ use Rattle.pages.specs.Page.{line_at}
 use Rattle.pages.specs.Mode.{alongside, gathered_mode}
 use Rattle.pages.specs.Gathering.{alike, lasting, gather, distinct}
 use Rattle.pages.specs.Gathering.Different.{Unlike}
-use Rattle.gathered.specs.declared.joining.Joined.{Joined}
 
 unfoldable pub place : List ℕ → ℕ → ℕ
 place [] x = 0
@@ -60,9 +58,6 @@ unfoldable pub picked : {A : Type 0} → ℕ → List ℕ → List A → List A
 picked n [] xs = []
 picked n (p ∷ ps) [] = []
 picked n (p ∷ ps) (x ∷ xs) = cond (p =? n) (x ∷ picked n ps xs) (picked n ps xs)
-
-abbrev pub joined_answer : Bool → ℕ → Joined
-joined_answer full lines = record { full = full; lines = lines }
 
 -- ---- by the lines themselves
 unfoldable pub spares : List Line → Line → ℕ
@@ -100,10 +95,10 @@ module _ (page : List ℕ) (column : List ℤ) (line lines : ℕ) where
     pub placed : places ≡ map (place (take lines page)) words
     pub room : length (next_of words weights) ≤ length page
 
-  unfoldable pub joined_onto : List ℕ → List ℤ → Joined × (List ℕ × List ℤ)
+  unfoldable pub joined_onto : List ℕ → List ℤ → Option ℕ × (List ℕ × List ℤ)
   joined_onto words weights =
-      cond (length page <? length next) (joined_answer true 0, (page, column))
-      (joined_answer false (length next), gathered_mode.put next (page, column))
+      cond (length page <? length next) (None, (page, column))
+      (Some (length next), gathered_mode.put next (page, column))
     where
       next : List Line
       next = next_of words weights

@@ -3,12 +3,15 @@
 --   struck_checks ..     the checks of the cycle and of the strip
 --   Hooked cycle l ..   what an accepted strike tells and leaves: the hook lines of l that wait, as words and weights
 --   Strikes cycle l ..  what a strike answers, and what it leaves where it does not refuse
-use Rattle.std.specs.Prelude.{◌≡◌, ◌≤◌, ◌∷◌, ◌%◌, ◌^◌}
+use Rattle.std.specs.Prelude.{◌≡◌, ◌≤◌, ◌∷◌, ◌%◌, ◌^◌, IfOk}
 use Rattle.theory.specs.Basics.{List, [], map, length, take, ℕ, ℤ, signed, sum}
 use Rattle.theory.specs.Digits.{bit}
 use Rattle.theory.specs.Limits.{degree_limit}
 use Rattle.theory.specs.ClassWord.{class_of}
 use Rattle.theory.specs.Refusals.{Check, first_of, no_9, no-19}
+use Rattle.std.specs.declared.result.Result.{Result}
+use Rattle.words.specs.declared.refusal.Refusal.{Refusal}
+use Rattle.words.specs.Answers.{refusal_of}
 use Rattle.pages.specs.Line.{Line}
 use Rattle.pages.specs.Line.Weights.{weight_of}
 use Rattle.pages.specs.Page.{word_of}
@@ -34,7 +37,7 @@ pub record Hooked (cycle : ℕ) (l : Line) (r : Struck) (words : List ℕ) (weig
   pub long-weights : length weights ≡ degree_limit
   pub lines : alongside (take r.count words) (take r.count weights) ≡ waiting_hooks cycle l
 
-pub record Strikes (cycle : ℕ) (l : Line) (strip : List ℕ) (r : Struck) (words : List ℕ) (weights : List ℤ) : Type 0
-  where
-    pub number : r.refused ≡ first_of (struck_checks cycle l strip)
-    pub hooked : r.refused ≡ 0 → Hooked cycle l r words weights
+pub record Strikes (cycle : ℕ) (l : Line) (strip : List ℕ) (r : Result Struck Refusal) (words : List ℕ)
+    (weights : List ℤ) : Type 0 where
+  pub number : refusal_of r ≡ first_of (struck_checks cycle l strip)
+  pub hooked : IfOk r (λ h. Hooked cycle l h words weights)

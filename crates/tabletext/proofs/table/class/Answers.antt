@@ -34,9 +34,15 @@ module _ (n r : ℕ)
   abbrev class : Parts
   class = get_or (listing n) r []
 
+  abbrev small : n ≤ degree_limit
+  small = listed.degree_le_degree_limit
+
+  abbrev within : r < length (listing n)
+  within = listed.rank_in_bounds
+
   module _ {answer : Result ℕ Refusal} (e : word_told answer ≡ class_at degree_limit n r) where
     worded : answer ≡ Ok (class_word class)
-    worded = word-of-rank degree_limit (omega arith) n r listed.degree_le_degree_limit listed.rank_in_bounds answer e
+    worded = word-of-rank degree_limit (omega arith) n r small within answer e
 
     module _ {w : ℕ} (is : answer ≡ Ok w) where
       word : w ≡ class_word class
@@ -45,7 +51,8 @@ module _ (n r : ℕ)
       module _ (count : Result ℕ Refusal) {parts : List ℕ}
           (o : Outcome (class_parts_into degree_limit w (replicate degree_limit 0)) (count_told count) parts) where
         parted : FrontGiven class (count_told count) parts
-        parted = parts-of-rank degree_limit (omega arith) n r listed.degree_le_degree_limit listed.rank_in_bounds w word (count_told count) parts o
+        parted =
+            parts-of-rank degree_limit (omega arith) n r small within w word (count_told count) parts o
 
         parts-given : IsOk count
         parts-given = is-given count (sym (count-told-number count) ∙ parted.none)
@@ -55,16 +62,18 @@ module _ (n r : ℕ)
 
       module _ (size : Result ℤ Refusal) (s : number_told size ≡ size_of_class degree_limit w) where
         sized : size ≡ Ok (pos (class_size class))
-        sized = size-of-rank degree_limit (omega arith) n r listed.degree_le_degree_limit listed.rank_in_bounds w word size s
+        sized = size-of-rank degree_limit (omega arith) n r small within w word size s
 
         handed : (z : ℤ) → size ≡ Ok z → to_z w64 (of_z w64 z) ≡ pos (class_size class)
-        handed z e = rw (inside-Ok z (pos (class_size class)) size e sized) (size_handed degree_limit (omega arith) n r listed.degree_le_degree_limit listed.rank_in_bounds)
+        handed z e =
+            rw (inside-Ok z (pos (class_size class)) size e sized)
+            (size_handed degree_limit (omega arith) n r small within)
 
       module _ (count : Result ℕ Refusal) {values : List ℤ}
           (o : Outcome (column_into degree_limit w (replicate most_partitions (pos 0))) (count_told count) values) where
         valued : FrontGiven (column class) (count_told count) values
         valued =
-            column-of-rank degree_limit (omega arith) n r listed.degree_le_degree_limit listed.rank_in_bounds w word most_partitions (listing-few n listed.degree_le_degree_limit)
+            column-of-rank degree_limit (omega arith) n r small within w word most_partitions (listing-few n small)
             (count_told count) values o
 
         values-given : IsOk count

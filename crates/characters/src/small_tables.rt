@@ -150,7 +150,8 @@ pub fn look(shape: u32, class: u32) -> i64
     row[of_shape]
 }
 
-// What is left of a class word when the longest cycles are struck until its degree is 4 or less.
+// What is left of a class word when the longest cycles are struck until its degree is 4 or less. The loop counts no
+// index: it shifts until a test holds, and a `for` over the parts would be no plainer.
 fn cycles_left(class: u32) -> u32
     requires { class < 2 ^ width }
     ensures { SmallClass result × (class_of result ≡ cycles_left (class_of class)) }

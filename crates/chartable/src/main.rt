@@ -11,7 +11,7 @@ fn room() -> [u8; tabletext::ROOM] {
     [0; tabletext::ROOM]
 }
 
-// Reads until a buffer is full or the input ends, and counts the bytes that it put at the buffer's front: where a
+// Reads until a buffer is full or the input ends (a loop over what comes, and over no index), and counts the bytes that it put at the buffer's front: where a
 // reader's bytes are known, the first ones, as many as the buffer has room for.
 fn read_full<R: Read + Drop>(mut reader: R, buffer: &mut [u8]) -> io::Result<usize>
     ensures fits { IfOk result (λ n. n ≤ length buffer.new) }

@@ -26,7 +26,7 @@ fn chain(word: u64, chains: usize) -> usize
 }
 
 // Whether a word is none of the first `latest` words. Only those on its chain are compared: the last of them is on it,
-// and the links lead back along it, to 0 at its end.
+// and the links lead back along it, to 0 at its end: fixed memory has no list to go through.
 fn fresh(words: &[u64], links: &[u16], word: u64, latest: usize) -> bool
     requires { Walk words.now links.now word latest }
     ensures { result ≡ absent word (take latest words.now) }

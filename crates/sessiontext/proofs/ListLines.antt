@@ -1,13 +1,11 @@
 -- A partition that is read off a line, written out and compared with it.
 use mathlib.Core.Path.{◌≡◌, sym, ◌∙◌, ap}
-use Rattle.std.specs.Prelude.{Option, ◌<◌, ◌^◌}
+use Rattle.std.specs.Prelude.{Option}
 use Rattle.std.specs.Bool.{then_some}
-use mir.Syntax.{w64}
-use mir.Val.{to_z, of_z}
 use mathlib.Core.Bool.{false≢true}
 use Prim.Native.Nat.{◌≤◌}
 use native.Mathlib.Omega.{arith}
-use Rattle.theory.specs.Basics.{Bool, true, false, ℕ, pos, length}
+use Rattle.theory.specs.Basics.{Bool, true, false, ℕ, length}
 use Rattle.theory.proofs.Basics.Keep.{same_test}
 use Rattle.theory.specs.Partition.{Parts, degree}
 use Rattle.theory.specs.ShapeWord.{shape_word}

@@ -3,9 +3,8 @@ use Rattle.std.specs.Prelude.{◌^◌}
 use mathlib.Core.Path.{◌≡◌, refl, sym, ◌∙◌, ap}
 use Prim.Native.Nat.{◌≤◌}
 use native.Mathlib.Omega.{arith}
-use mir.Facts.{to_z-of_z}
 use mir.Syntax.{w64}
-use mir.Val.{SFits, to_z, of_z}
+use mir.Val.{SFits}
 use borrow.Author.Rules.{sfits_of}
 use borrow.Author.Tests.{ltb-true}
 use Rattle.theory.specs.Basics.{true, List, ℕ, ℤ, pos, negsuc, nat_abs, length, replicate}

@@ -38,7 +38,7 @@ fn waiting_line(line: &[u8]) -> Option<Weighted>
 }
 
 // The first of the waiting lines that a text has behind seven others that is not of its form, by its number in the
-// text.
+// text. Lines are taken off what is left of it, by no index: an iterator of lines would be no plainer.
 pub fn first_fault(text: &[u8]) -> Option<usize>
     ensures { FirstFault (lines_of text.now) result }
 {
@@ -56,7 +56,7 @@ pub fn first_fault(text: &[u8]) -> Option<usize>
 }
 
 // Puts the waiting lines of a text, all of their form, at the front of a page and a column of coefficients that have
-// room for them.
+// room for them (taken off as above).
 pub fn put(text: &[u8], page: &mut [u64], column: &mut [i64])
     requires each { Each (WaitingBy gathered_form degree_limit) (lines_of text.now) }
     requires text_in_bounds { (length (lines_of text.now) ≤ length page.old)

@@ -58,7 +58,8 @@ fn next(text: &[u8]) -> Option<(u64, &[u8])>
 }
 
 // Judges the waiting lines that a text has behind six others: whether a budget suffices, or the first of them that is
-// not of its form, by its number in the text.
+// not of its form, by its number in the text. Lines are taken off what is left of it, by no index: an iterator of lines
+// would be no plainer.
 pub fn judge(text: &[u8], budget: Budget) -> Result<bool, usize>
     ensures { ReadLines (lines_of text.now) budget result }
 {
@@ -74,7 +75,8 @@ pub fn judge(text: &[u8], budget: Budget) -> Result<bool, usize>
     Ok(left.enough)
 }
 
-// Puts the waiting lines of a text, all of their form, at the front of a page that has room for them.
+// Puts the waiting lines of a text, all of their form, at the front of a page that has room for them (taken off as
+// above).
 pub fn put(text: &[u8], page: &mut [u64])
     requires each { Each (Waiting degree_limit) (lines_of text.now) }
     requires text_in_bounds { length (lines_of text.now) ≤ length page.old }

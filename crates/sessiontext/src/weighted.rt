@@ -35,10 +35,8 @@ fn all(lines: &[u64], coefficients: &[i64], out: &mut [u8], at: usize) -> usize
         (alongside lines.now coefficients.now)) at out.old result out.new }
 {
     let mut end = at;
-    let mut i = 0;
-    while i < lines.len() {
-        end = line(lines[i], coefficients[i], out, end);
-        i += 1;
+    for (i, &word) in lines.iter().enumerate() {
+        end = line(word, coefficients[i], out, end);
     }
     end
 }

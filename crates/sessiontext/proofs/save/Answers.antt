@@ -1,5 +1,5 @@
 -- `sessiontext::save`: slip and page are judged, then the room, and only then the text is written.
-use Rattle.std.proofs.Common.{◌≡◌, ◌≤◌, length, List, ℕ, sym, ◌∙◌, arith}
+use Rattle.std.proofs.Common.{◌≡◌, List, ℕ, sym, ◌∙◌, arith}
 use Rattle.std.proofs.lemmas.Result.{err_from_is_err_and}
 use lib.Seq.{length-take-le}
 use borrow.Author.Tests.{leb-true, leb-false}

@@ -15,7 +15,7 @@ impl Degrees {
     pub fn of_degree(&mut self, degree: Degree) {
         let class = listing::class_at(degree.n, degree.count - 1);
         let mut values = [0i64; listing::MOST_PARTITIONS];
-        classcolumns::column(class.unwrap_or(0), &mut values);
+        let _ = classcolumns::column(class.unwrap_or(0), &mut values);
         let entries = degree.entries(&values);
         for (rank, number) in (0..degree.count).zip(entries) {
             let told = tells(degree, rank, characters::character_degree, *number);

@@ -13,7 +13,7 @@ fn columns(degree: Degree) -> Table {
     let mut table = [[0i64; listing::MOST_PARTITIONS]; listing::MOST_PARTITIONS];
     for (rank, column) in (0..degree.count).zip(&mut table) {
         let class = listing::class_at(degree.n, rank);
-        classcolumns::column(class.unwrap_or(0), column);
+        let _ = classcolumns::column(class.unwrap_or(0), column);
     }
     table
 }

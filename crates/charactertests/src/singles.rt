@@ -18,7 +18,7 @@ pub fn tells<F: FnOnce(u32) -> Result<i64, Refusal>>(
 
 fn of_class(found: Tally, degree: Degree, class: u32) -> Tally {
     let mut values = [0i64; listing::MOST_PARTITIONS];
-    classcolumns::column(class, &mut values);
+    let _ = classcolumns::column(class, &mut values);
     let mut t = found;
     for (rank, number) in (0..degree.count).zip(degree.entries(&values)) {
         let character = |shape| characters::character(shape, class);

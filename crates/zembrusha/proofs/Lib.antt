@@ -1,3 +1,2 @@
 pub mod Unique
 pub mod Session
-pub mod HandedOn

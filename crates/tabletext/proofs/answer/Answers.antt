@@ -20,4 +20,5 @@ returns-then-degree-gt-LIMIT c =
 pub returns : goal.returns
 returns c =
     let n = number_read _ c.in-Some.degree (sym c.in-Some.ensures) in
-    answered _ c.args.out.now (omega arith) (asks-for degree_limit _ c.in-Some.degree n c.if-degree-gt-LIMIT.false) c.table.ensures
+    answered _ c.args.out.now (omega arith) (asks-for degree_limit _ c.in-Some.degree n c.if-degree-gt-LIMIT.false)
+    c.table.ensures

@@ -33,7 +33,8 @@ slice_bounds-same-end c =
 pub returns-then-same : goal.returns-then-same
 returns-then-same c =
     let l = line c.number_in-n.result (omega (arith, c.if-n-gt99.false)) refl c.line-end.ensures in
-    rw (read_asked _ _ c.number_in-n.ensures (omega (arith, c.if-n-gt99.false)) (c.same.ensures.0 c.if-same.true ∙ l)) refl
+    rw (read_asked _ _ c.number_in-n.ensures (omega (arith, c.if-n-gt99.false))
+    (c.same.ensures.0 c.if-same.true ∙ l)) refl
 
 pub returns-else-same : goal.returns-else-same
 returns-else-same c =

@@ -28,15 +28,30 @@ use Rattle.tabletext.proofs.table.class.Goals as goal
 inside-Ok : {A : Type 0} (x y : A) (r : Result A Refusal) → r ≡ Ok x → r ≡ Ok y → x ≡ y
 inside-Ok x y r p q = cc
 
+-- a count with what stands at a column's front
+module _ {A : Type 0} {xs after : List A} (count : Result ℕ Refusal)
+    (front : FrontGiven xs (count_told count) after) where
+  front_ok : IsOk count
+  front_ok = is-given count (sym (count-told-number count) ∙ front.none)
+
+  unwrapped : {k : ℕ} → count ≡ Ok k → FrontGiven xs (count_told (Ok k)) after
+  unwrapped k = rw k at front
+
 -- the class of a rank: its word, its parts, its size and its column are asked for in this order
 module _ (n r : ℕ)
     (listed : record { degree_le_degree_limit : n ≤ degree_limit; rank_in_bounds : r < length (listing n) }) where
   abbrev class : Parts
   class = get_or (listing n) r []
 
+  abbrev small : n ≤ degree_limit
+  small = listed.degree_le_degree_limit
+
+  abbrev within : r < length (listing n)
+  within = listed.rank_in_bounds
+
   module _ {answer : Result ℕ Refusal} (e : word_told answer ≡ class_at degree_limit n r) where
     worded : answer ≡ Ok (class_word class)
-    worded = word-of-rank degree_limit (omega arith) n r listed.degree_le_degree_limit listed.rank_in_bounds answer e
+    worded = word-of-rank degree_limit (omega arith) n r small within answer e
 
     module _ {w : ℕ} (is : answer ≡ Ok w) where
       word : w ≡ class_word class
@@ -45,33 +60,23 @@ module _ (n r : ℕ)
       module _ (count : Result ℕ Refusal) {parts : List ℕ}
           (o : Outcome (class_parts_into degree_limit w (replicate degree_limit 0)) (count_told count) parts) where
         parted : FrontGiven class (count_told count) parts
-        parted = parts-of-rank degree_limit (omega arith) n r listed.degree_le_degree_limit listed.rank_in_bounds w word (count_told count) parts o
-
-        parts-given : IsOk count
-        parts-given = is-given count (sym (count-told-number count) ∙ parted.none)
-
-        parts_unwrapped : {k : ℕ} → count ≡ Ok k → FrontGiven class (count_told (Ok k)) parts
-        parts_unwrapped k = rw k at parted
+        parted = parts-of-rank degree_limit (omega arith) n r small within w word (count_told count) parts o
 
       module _ (size : Result ℤ Refusal) (s : number_told size ≡ size_of_class degree_limit w) where
         sized : size ≡ Ok (pos (class_size class))
-        sized = size-of-rank degree_limit (omega arith) n r listed.degree_le_degree_limit listed.rank_in_bounds w word size s
+        sized = size-of-rank degree_limit (omega arith) n r small within w word size s
 
         handed : (z : ℤ) → size ≡ Ok z → to_z w64 (of_z w64 z) ≡ pos (class_size class)
-        handed z e = rw (inside-Ok z (pos (class_size class)) size e sized) (size_handed degree_limit (omega arith) n r listed.degree_le_degree_limit listed.rank_in_bounds)
+        handed z e =
+            rw (inside-Ok z (pos (class_size class)) size e sized)
+            (size_handed degree_limit (omega arith) n r small within)
 
       module _ (count : Result ℕ Refusal) {values : List ℤ}
           (o : Outcome (column_into degree_limit w (replicate most_partitions (pos 0))) (count_told count) values) where
         valued : FrontGiven (column class) (count_told count) values
         valued =
-            column-of-rank degree_limit (omega arith) n r listed.degree_le_degree_limit listed.rank_in_bounds w word most_partitions (listing-few n listed.degree_le_degree_limit)
+            column-of-rank degree_limit (omega arith) n r small within w word most_partitions (listing-few n small)
             (count_told count) values o
-
-        values-given : IsOk count
-        values-given = is-given count (sym (count-told-number count) ∙ valued.none)
-
-        values_unwrapped : {k : ℕ} → count ≡ Ok k → FrontGiven (column class) (count_told (Ok k)) values
-        values_unwrapped k = rw k at valued
 
   -- what the lines are made of is the class's own
   text : {k m : ℕ} (z : ℤ) {parts : List ℕ} {values : List ℤ} → FrontGiven class (count_told (Ok k)) parts
@@ -81,13 +86,13 @@ module _ (n r : ℕ)
   text z p s v = rw (p.front, s, v.front)
 
 pub unwrap-class-requires : goal.unwrap-class-requires
-unwrap-class-requires c =
-    rw (worded c.args.degree c.args.rank c.requires c.class_at.ensures) refl
+unwrap-class-requires c = rw (worded c.args.degree c.args.rank c.requires c.class_at.ensures) refl
 
 pub unwrap-count-requires : goal.unwrap-count-requires
 unwrap-count-requires c =
-    parts-given c.args.degree c.args.rank c.requires c.class_at.ensures c.unwrap-class.ensures c.parts.result
-    c.parts.ensures
+    front_ok c.parts.result
+    (parted c.args.degree c.args.rank c.requires c.class_at.ensures c.unwrap-class.ensures c.parts.result
+    c.parts.ensures)
 
 pub unwrap-size-requires : goal.unwrap-size-requires
 unwrap-size-requires c =
@@ -96,18 +101,21 @@ unwrap-size-requires c =
 
 pub unwrap-length-requires : goal.unwrap-length-requires
 unwrap-length-requires c =
-    values-given c.args.degree c.args.rank c.requires c.class_at.ensures c.unwrap-class.ensures c.column.result
-    c.column.ensures
+    front_ok c.column.result
+    (valued c.args.degree c.args.rank c.requires c.class_at.ensures c.unwrap-class.ensures c.column.result
+    c.column.ensures)
 
 pub slice_bounds-parts-end-2 : goal.slice_bounds-parts-end-2
 slice_bounds-parts-end-2 c =
-    (parts_unwrapped c.args.degree c.args.rank c.requires c.class_at.ensures c.unwrap-class.ensures c.parts.result
-    c.parts.ensures c.unwrap-count.ensures).inside
+    (unwrapped c.parts.result
+    (parted c.args.degree c.args.rank c.requires c.class_at.ensures c.unwrap-class.ensures c.parts.result
+    c.parts.ensures) c.unwrap-count.ensures).inside
 
 pub slice_bounds-lines-end : goal.slice_bounds-lines-end
 slice_bounds-lines-end c =
-    let parts = parts_unwrapped c.args.degree c.args.rank c.requires c.class_at.ensures c.unwrap-class.ensures
-    c.parts.result c.parts.ensures c.unwrap-count.ensures in
+    let parts = unwrapped c.parts.result
+    (parted c.args.degree c.args.rank c.requires c.class_at.ensures c.unwrap-class.ensures c.parts.result
+    c.parts.ensures) c.unwrap-count.ensures in
     sym (length-take-le _ _ parts.inside)
 
 pub overflow_cast-size : goal.overflow_cast-size
@@ -119,21 +127,25 @@ overflow_cast-size c =
 
 pub slice_bounds-values-end : goal.slice_bounds-values-end
 slice_bounds-values-end c =
-    (values_unwrapped c.args.degree c.args.rank c.requires c.class_at.ensures c.unwrap-class.ensures c.column.result
-    c.column.ensures c.unwrap-length.ensures).inside
+    (unwrapped c.column.result
+    (valued c.args.degree c.args.rank c.requires c.class_at.ensures c.unwrap-class.ensures c.column.result
+    c.column.ensures) c.unwrap-length.ensures).inside
 
 pub slice_bounds-lines-end-2 : goal.slice_bounds-lines-end-2
 slice_bounds-lines-end-2 c =
-    let values = values_unwrapped c.args.degree c.args.rank c.requires c.class_at.ensures c.unwrap-class.ensures
-    c.column.result c.column.ensures c.unwrap-length.ensures in
+    let values = unwrapped c.column.result
+    (valued c.args.degree c.args.rank c.requires c.class_at.ensures c.unwrap-class.ensures c.column.result
+    c.column.ensures) c.unwrap-length.ensures in
     sym (length-take-le _ _ values.inside)
 
 pub returns : goal.returns
 returns c =
-    let parts = parts_unwrapped c.args.degree c.args.rank c.requires c.class_at.ensures c.unwrap-class.ensures
-    c.parts.result c.parts.ensures c.unwrap-count.ensures in
+    let parts = unwrapped c.parts.result
+    (parted c.args.degree c.args.rank c.requires c.class_at.ensures c.unwrap-class.ensures c.parts.result
+    c.parts.ensures) c.unwrap-count.ensures in
     let size = handed c.args.degree c.args.rank c.requires c.class_at.ensures c.unwrap-class.ensures c.size.result
     c.size.ensures c.unwrap-size.result c.unwrap-size.ensures in
-    let values = values_unwrapped c.args.degree c.args.rank c.requires c.class_at.ensures c.unwrap-class.ensures
-    c.column.result c.column.ensures c.unwrap-length.ensures in
+    let values = unwrapped c.column.result
+    (valued c.args.degree c.args.rank c.requires c.class_at.ensures c.unwrap-class.ensures c.column.result
+    c.column.ensures) c.unwrap-length.ensures in
     rw (← text c.args.degree c.args.rank c.requires c.unwrap-size.result parts size values) c.lines.ensures

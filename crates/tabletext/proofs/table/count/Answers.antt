@@ -12,8 +12,8 @@ use Rattle.listing.proofs.Indexes.{section-found, section-given}
 use Rattle.tabletext.specs.Table.Room.{listing-few}
 use Rattle.tabletext.proofs.table.count.Goals as goal
 
-counted : (n : ℕ) (s : Span) (r : Result Span Refusal) → n ≤ degree_limit → r ≡ Ok s → section_told r ≡ section_of degree_limit n
-    → s.count ≡ length (listing n)
+counted : (n : ℕ) (s : Span) (r : Result Span Refusal) → n ≤ degree_limit → r ≡ Ok s
+    → section_told r ≡ section_of degree_limit n → s.count ≡ length (listing n)
 counted n s r small is e =
     ap (λ (a : SectionAnswer). a.count)
     (section-given degree_limit n (section_told (Ok s)) (sym (ap section_told is) ∙ e) small)

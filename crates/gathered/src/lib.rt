@@ -86,10 +86,10 @@ pub fn commit(
         (page.old, coefficients.old) line cycle strip.now) (handed_told result)
         (page.new, coefficients.new) }
 {
-    match commits::committed(slip, page, coefficients, line, cycle, strip) {
-        Ok(after) => Ok(after),
-        Err(refusal) => Err(Refused { refusal, slip }),
-    }
+    commits::committed(slip, page, coefficients, line, cycle, strip).map_err(|refusal| Refused {
+        refusal,
+        slip,
+    })
 }
 
 // Why a watch is refused: 6, 21, 7, 15, 8.

@@ -20,6 +20,9 @@ use Rattle.theory.proofs.Bounds.Laws.{S-rises}
 use Rattle.theory.specs.Refusals.{Check, first_of, no-10, no-18, no-19}
 use Rattle.theory.proofs.Refusals.Laws.{none-applies, first-refuses, first_passes, or-refused, answer-number}
 use Rattle.theory.proofs.Refusals.Laws.{answer-given}
+use Rattle.std.specs.declared.result.Result.{Result}
+use Rattle.std.specs.declared.result.Result.TheVariants.{Ok}
+use Rattle.words.specs.declared.refusal.Refusal.{Refusal}
 use Rattle.words.specs.Answers.{CountAnswer, WordAnswer}
 use Rattle.words.specs.Answers.{Outcome, count_answer, at_front}
 use Rattle.words.proofs.Factorials.{factorial-fits}
@@ -44,7 +47,8 @@ use Rattle.sessions.proofs.Step.Previews.{few-new}
 use Rattle.sessions.specs.Private.ClassLeft.{class_left_of}
 use Rattle.sessions.specs.Private.Pages.{others, Exchanges, exchanged}
 use Rattle.sessions.specs.Private.Striking.{Strikes, stripped}
-use Rattle.sessions.specs.Private.Struck.{Struck, struck, struck_onto}
+use Rattle.sessions.specs.Private.Struck.{Struck, struck, struck_told, struck_onto}
+use Rattle.sessions.proofs.Told.{Beside, given-before}
 use Rattle.sessions.proofs.Steps.{number}
 
 module _ (limit : ℕ) (small : limit ≤ largest_limit) (slip : Slip) (page : List ℕ) (line cycle : ℕ) where
@@ -175,6 +179,14 @@ module _ (limit : ℕ) (small : limit ≤ largest_limit) (slip : Slip) (page : L
       module _ (some : h.refused ≡ 0 → ⊥) (more : List Check) where
         refuses : first_of (named ++ more) ≡ h.refused
         refuses = first-refuses named more (λ z. some (strike-number ∙ z)) ∙ sym strike-number
+
+  -- what was struck, where the slip has been put beside a refusal
+  pub hooked-beside : (lent : List ℕ) (r : Result HookLines Refusal) {strip : List ℕ}
+      → Outcome (struck_onto limit slip page line cycle lent) (struck_told r) strip → (h : HookLines)
+      → Beside slip r (Ok h) → Hooked (struck_told (Ok h)) strip
+  hooked-beside lent r o h same =
+      let is : r ≡ Ok h = given-before slip r same in
+      hooked lent (rw is at o) refl
 
   -- ---- a preview
   preview-refused : (lent : List ℕ) (k : ℕ) → first_of (named ++ no-18 new lent ∷ []) ≡ k → (k ≡ 0 → ⊥)

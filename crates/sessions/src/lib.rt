@@ -178,17 +178,13 @@ pub fn commit(
         (handed_told result) page.new }
 {
     let mut new = [0u64; words::LIMIT as usize];
-    let hooks = match strike(slip, &page[..], line, cycle, &mut new) {
-        Ok(hooks) => hooks,
-        Err(refusal) => return Err(Refused { refusal, slip }),
-    };
+    let refused = |refusal| Refused { refusal, slip };
+    let hooks = strike(slip, &page[..], line, cycle, &mut new).map_err(refused)?;
     let count = hooks.count;
     let lines = slip.lines;
     let after = lines - 1 + count;
     let last = last_refusal(page::begins(strip, &new[..count]), page.len() < after);
-    if let Err(refusal) = last {
-        return Err(Refused { refusal, slip });
-    }
+    last.map_err(refused)?;
     page::exchange(page, line, lines, &new[..count]);
     Ok(next_slip(slip, hooks.settled, after))
 }

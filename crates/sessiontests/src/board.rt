@@ -1,5 +1,6 @@
 // Counts of calls, by the number that refused them (0: accepted) or by what was wrong with them (0: nothing).
 use std::io;
+use words::Refusal;
 
 // How many numbers a row of refusals has: they go from 0 to 19.
 pub const REFUSALS: usize = 20;
@@ -16,6 +17,11 @@ impl Row {
         if let Some(count) = self.counts.get_mut(number) {
             *count = count.wrapping_add(1);
         }
+    }
+
+    // One call more, by what refused it.
+    pub fn tell(&mut self, refused: Option<Refusal>) {
+        self.add(refused.map_or(0, |refusal| usize::from(refusal.number())));
     }
 
     // The first counts of a row, after a name.

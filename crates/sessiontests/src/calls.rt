@@ -6,18 +6,19 @@ use super::drawing::{asked_words, in_front};
 use super::runs::Run;
 use pages::{BLANK, Slip};
 use testing::numbers;
+use words::Refusal;
 
-// A call's outcome: the refusal number, and what was wrong with it (0: nothing).
+// A call's outcome: why it was refused, if it was, and what was wrong with it (0: nothing).
 #[derive(Clone, Copy)]
 pub struct Outcome {
-    pub refused: u8,
+    pub refused: Option<Refusal>,
     pub wrong: usize,
 }
 
 impl Outcome {
     // One call more, in a row by what refused it and in one by what was wrong.
     pub fn enter(self, row: &mut Row, wrong: &mut Row) {
-        row.add(usize::from(self.refused));
+        row.tell(self.refused);
         wrong.add(self.wrong);
     }
 }
@@ -63,28 +64,32 @@ impl Run {
     pub fn open(&mut self, word: u64) -> Outcome {
         let (shape, class) = asked_words(word);
         let good = Slip {
-            shape: words::shapes::good(shape).word,
+            shape: words::shapes::good(shape).map_or(0, |good| good.word),
             class,
             ..BLANK
         };
         let handed = sessions::open(in_front(shape, word), class, &mut self.page);
-        let refused = handed.refused;
-        let slip = handed.slip;
-        let stays = (self.page == self.twin) & (slip == BLANK);
+        let kept = self.page == self.twin;
         let other = sessions::open(shape, class, &mut self.twin);
-        if refused == 0 {
-            self.slip = slip;
-        }
         let lines = usize::from(good.shape != 0);
+        let (stays, comes, tells) = match handed {
+            Ok(slip) => (true, counted(slip, good, 0), slip.lines == lines),
+            Err(refused) => (
+                kept & (refused.slip == BLANK),
+                true,
+                refused.refusal != Refusal::PageFull,
+            ),
+        };
+        self.slip = handed.unwrap_or(self.slip);
         let right = Right {
             twins: (self.page == self.twin) & (handed == other),
-            stays: (refused == 0) | stays,
-            comes: (refused != 0) | counted(slip, good, 0),
+            stays,
+            comes,
             sums: conserved(self.slip, &self.page),
-            tells: (refused != 10) & ((refused != 0) | (slip.lines == lines)),
+            tells,
         };
         Outcome {
-            refused,
+            refused: handed.err().map(|refused| refused.refusal),
             wrong: right.wrong(),
         }
     }

@@ -44,6 +44,6 @@ pub fn watches(slip: Slip, page: &[u64]) -> Shown {
 
 // Whether the settled sum and the waiting characters are the character of the slip's words.
 pub fn conserved(slip: Slip, page: &[u64]) -> bool {
-    numbers::sum(number(slip, page, 3), number(slip, page, 4))
-        == characters::character(slip.shape, slip.class).number
+    let sum = numbers::sum(number(slip, page, 3), number(slip, page, 4));
+    characters::character(slip.shape, slip.class) == Ok(sum)
 }

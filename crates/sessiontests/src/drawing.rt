@@ -31,13 +31,10 @@ fn turned(number: u32, word: u64) -> u32 {
 // The words of an opening, a shape's and a class's. A bit is turned now and then.
 pub fn asked_words(word: u64) -> (u32, u32) {
     let degree = below(word, 17);
-    let count = listing::section(degree).count;
-    let shape = listing::shape_at(degree, below(word >> 8, count));
-    let class = listing::class_at(degree, below(word >> 28, count));
-    (
-        turned(shape.word, word >> 20),
-        turned(class.word, word >> 44),
-    )
+    let count = listing::section(degree).map_or(0, |section| section.count);
+    let shape = listing::shape_at(degree, below(word >> 8, count)).unwrap_or(0);
+    let class = listing::class_at(degree, below(word >> 28, count)).unwrap_or(0);
+    (turned(shape, word >> 20), turned(class, word >> 44))
 }
 
 // The slip of a step or a save: the one at hand, in which a bit of its lines is turned now and then.

@@ -7,6 +7,8 @@ use super::parts::{front, front_mut};
 use super::runs::Run;
 use super::texts::{WORD, marked_words};
 use pages::BLANK;
+use sessiontext::Unloaded;
+use words::Refusal;
 
 // Whether a page has these lines in front, then zeros up to `room`, and marks behind.
 fn holds(page: &[u64], lines: &[u64], room: usize) -> bool {
@@ -30,30 +32,38 @@ impl Run {
             self.saved.length
         };
         let text = front(&self.text, length);
-        let fault = if cut {
-            line_cut(text, self.saved.slip.lines)
-        } else {
-            0
-        };
+        let fault = line_cut(text, self.saved.slip.lines);
         let loaded = sessiontext::load(text, &mut self.page);
-        let refused = loaded.refused;
-        let stays = (self.page == self.twin) & (loaded.slip == BLANK);
+        let kept = self.page == self.twin;
         let other = sessiontext::load(front(&self.other, length), &mut self.twin);
-        let back = (loaded.slip == self.saved.slip)
-            & (self.page == self.saved.page)
-            & (watches(loaded.slip, &self.page) == self.saved.shown);
-        if refused == 0 {
-            self.slip = loaded.slip;
-        }
+        let (stays, comes, tells) = match loaded {
+            Ok(slip) => {
+                let back = (slip == self.saved.slip)
+                    & (self.page == self.saved.page)
+                    & (watches(slip, &self.page) == self.saved.shown);
+                (true, back, !cut)
+            }
+            Err(
+                Unloaded {
+                    refusal,
+                    line,
+                    slip,
+                },
+            ) => {
+                let told = cut & (refusal == Refusal::BadText) & (line == fault);
+                (kept & (slip == BLANK), true, told)
+            }
+        };
+        self.slip = loaded.unwrap_or(self.slip);
         let right = Right {
             twins: (self.page == self.twin) & (loaded == other),
-            stays: (refused == 0) | stays,
-            comes: (refused != 0) | back,
+            stays,
+            comes,
             sums: conserved(self.slip, &self.page),
-            tells: ((refused == 16) == cut) & ((refused == 0) != cut) & (loaded.line == fault),
+            tells,
         };
         Outcome {
-            refused,
+            refused: loaded.err().map(|unloaded| unloaded.refusal),
             wrong: right.wrong(),
         }
     }
@@ -66,24 +76,28 @@ impl Run {
         let mut page = [WORD; 24];
         let text = front(&self.text, saved.length);
         let loaded = sessiontext::load(text, front_mut(&mut page, room));
-        let slip = loaded.slip;
-        let refused = loaded.refused;
+        let full = Unloaded {
+            refusal: Refusal::PageFull,
+            line: 0,
+            slip: BLANK,
+        };
         let lines = front(&saved.page, saved.slip.lines);
-        let full = (refused == 10) & (slip == BLANK) & marked_words(&page);
-        let fits = (refused == 0)
-            & (slip == saved.slip)
-            & holds(&page, lines, room)
-            & (watches(slip, front(&page, room)) == saved.shown);
-        let expected = if room < saved.slip.lines { full } else { fits };
+        let tells = if room < saved.slip.lines {
+            (loaded == Err(full)) & marked_words(&page)
+        } else {
+            (loaded == Ok(saved.slip))
+                & holds(&page, lines, room)
+                & (watches(saved.slip, front(&page, room)) == saved.shown)
+        };
         let right = Right {
             twins: true,
             stays: true,
             comes: true,
             sums: true,
-            tells: expected & (loaded.line == 0),
+            tells,
         };
         Outcome {
-            refused,
+            refused: loaded.err().map(|unloaded| unloaded.refusal),
             wrong: right.wrong(),
         }
     }

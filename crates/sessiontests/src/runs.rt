@@ -60,7 +60,7 @@ impl Run {
             settled: 1,
             ..pages::BLANK
         };
-        let length = sessiontext::save(slip, &page, &mut text).count;
+        let length = sessiontext::save(slip, &page, &mut text).unwrap_or(0);
         Run {
             slip,
             page,

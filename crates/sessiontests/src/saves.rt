@@ -7,6 +7,7 @@ use super::parts::{behind, front, front_mut};
 use super::runs::Run;
 use super::texts::{ROOM, just_fits};
 use pages::Slip;
+use words::Refusal;
 
 // What a run put away last: slip and page, what the watches showed, and how long the text is.
 #[derive(Clone, Copy)]
@@ -27,13 +28,14 @@ fn room(word: u64) -> usize {
 }
 
 // Whether a save to so many bytes is refused as one to enough bytes is, and by 17 exactly where they are too few.
-fn has_room(slip: Slip, page: &[u64; PAGE], room: usize, refused: u8) -> bool {
+fn has_room(slip: Slip, page: &[u64; PAGE], room: usize, answer: Result<usize, Refusal>) -> bool {
     let mut bytes = [0u8; ROOM];
     let whole = sessiontext::save(slip, page, &mut bytes);
-    if whole.refused != 0 {
-        return refused == whole.refused;
+    if whole.is_ok_and(|length| room < length) {
+        answer == Err(Refusal::BufferTooShort)
+    } else {
+        answer == whole
     }
-    ((refused == 17) & (room < whole.count)) | ((refused == 0) & (whole.count <= room))
 }
 
 impl Run {
@@ -42,16 +44,12 @@ impl Run {
         let slip = asked(self.slip, word);
         let room = room(word);
         let answer = sessiontext::save(slip, &self.page, front_mut(&mut self.text, room));
-        let refused = answer.refused;
-        let length = answer.count;
-        let stays = (behind(&self.text, length) == behind(&self.other, length))
-            & ((refused == 0) | (length == 0));
+        let length = answer.unwrap_or(0);
+        let stays = behind(&self.text, length) == behind(&self.other, length);
         let second = sessiontext::save(slip, &self.twin, front_mut(&mut self.other, room));
-        let twins = (self.text == self.other)
-            & (refused == second.refused)
-            & (length == second.count);
-        let exact = refused != 0 || just_fits(slip, &self.page, front(&self.text, length));
-        if refused == 0 {
+        let twins = (self.text == self.other) & (answer == second);
+        let exact = answer.is_err() || just_fits(slip, &self.page, front(&self.text, length));
+        if answer.is_ok() {
             self.saved = Saved {
                 slip,
                 page: self.page,
@@ -64,10 +62,10 @@ impl Run {
             stays,
             comes: exact,
             sums: true,
-            tells: has_room(slip, &self.page, room, refused),
+            tells: has_room(slip, &self.page, room, answer),
         };
         Outcome {
-            refused,
+            refused: answer.err(),
             wrong: right.wrong(),
         }
     }

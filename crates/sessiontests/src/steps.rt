@@ -7,73 +7,83 @@ use super::parts::{front, front_mut};
 use super::runs::Run;
 use super::striking::{New, struck};
 use super::strips::{STRIP, handed, holds, room};
+use words::Refusal;
 
-// Why a commit with a strip must be refused (0: it must not), what must come of the strike being given: 19 where the
-// strip does not begin with its lines, then 10 where more lines would wait than the page has words.
-fn refusal(strike: Strike, new: &New, strip: &[u64]) -> u8 {
-    if new.refused != 0 {
-        return new.refused;
+// What must come of a preview on so many words, what must come of the strike being given: 18 where they are too few.
+fn previewed(new: Result<New, Refusal>, room: usize) -> Result<New, Refusal> {
+    let new = new?;
+    if room.min(STRIP) < new.count {
+        return Err(Refusal::StripTooShort);
     }
+    Ok(new)
+}
+
+// What must come of a commit with a strip, what must come of the strike being given: 19 where the strip does not begin
+// with its lines, then 10 where more lines would wait than the page has words.
+fn committed(strike: Strike, new: Result<New, Refusal>, strip: &[u64]) -> Result<New, Refusal> {
+    let new = new?;
     if !strip.starts_with(new.lines()) {
-        return 19;
+        return Err(Refusal::NotThatPreview);
     }
     if strike.slip.lines.wrapping_add(new.count) > PAGE + 1 {
-        return 10;
+        return Err(Refusal::PageFull);
     }
-    0
+    Ok(new)
 }
 
 impl Run {
     // A preview on the first words of the run's strip. What must come of the strike is given: its lines come to the
     // front of the strip, or it is refused 18 where the words are too few. The page has the same words and shows the
     // same watches after.
-    fn preview(&mut self, strike: Strike, new: &New, room: usize) -> Outcome {
+    fn preview(&mut self, strike: Strike, new: Result<New, Refusal>, room: usize) -> Outcome {
         let Strike { slip, line, cycle } = strike;
         let before = self.strip;
         let shown = watches(slip, &self.page);
         let strip = front_mut(&mut self.strip, room);
         let answer = sessions::preview(slip, &self.page, line, cycle, strip);
-        let refused = answer.refused;
-        let count = answer.count;
-        let stays = (count == 0) & (self.strip == before);
-        let fills = (count == new.count) & holds(&self.strip, new.lines(), &before);
-        let short = room.min(STRIP) < new.count;
-        let expected = if short { 18 } else { new.refused };
+        let expected = previewed(new, room);
         let right = Right {
             twins: (self.page == self.twin) & (watches(slip, &self.page) == shown),
-            stays: (refused == 0) | stays,
-            comes: (refused != 0) | fills,
+            stays: answer.is_ok() | (self.strip == before),
+            comes: answer.is_err()
+                | expected.is_ok_and(|new| holds(&self.strip, new.lines(), &before)),
             sums: true,
-            tells: refused == expected,
+            tells: answer == expected.map(|new| new.count),
         };
         Outcome {
-            refused,
+            refused: answer.err(),
             wrong: right.wrong(),
         }
     }
 
     // A commit with a strip, what must come of the strike being given.
-    fn commit(&mut self, strike: Strike, new: &New, strip: &[u64]) -> Outcome {
+    fn commit(&mut self, strike: Strike, new: Result<New, Refusal>, strip: &[u64]) -> Outcome {
         let Strike { slip, line, cycle } = strike;
         let handed = sessions::commit(slip, &mut self.page, line, cycle, strip);
-        let refused = handed.refused;
-        let after = handed.slip;
-        let stays = (self.page == self.twin) & (after == slip);
-        let moves = counted(after, slip, 1) & stepped(&self.page, &self.twin, strike, new);
+        let expected = committed(strike, new, strip);
+        let (stays, comes, tells) = match handed {
+            Ok(after) => {
+                let moves = expected.is_ok_and(|new| stepped(&self.page, &self.twin, strike, &new));
+                let lines = after.lines.wrapping_add(1);
+                let told = expected.is_ok_and(|new| lines == slip.lines.wrapping_add(new.count));
+                (true, counted(after, slip, 1) & moves, told)
+            }
+            Err(refused) => {
+                let stays = (self.page == self.twin) & (refused.slip == slip);
+                (stays, true, expected.err() == Some(refused.refusal))
+            }
+        };
         let other = sessions::commit(slip, &mut self.twin, line, cycle, strip);
-        if refused == 0 {
-            self.slip = after;
-        }
-        let lines = after.lines.wrapping_add(1) == slip.lines.wrapping_add(new.count);
+        self.slip = handed.unwrap_or(self.slip);
         let right = Right {
             twins: (self.page == self.twin) & (handed == other),
-            stays: (refused == 0) | stays,
-            comes: (refused != 0) | moves,
+            stays,
+            comes,
             sums: conserved(self.slip, &self.page),
-            tells: (refused == refusal(strike, new, strip)) & ((refused != 0) | lines),
+            tells,
         };
         Outcome {
-            refused,
+            refused: handed.err().map(|refused| refused.refusal),
             wrong: right.wrong(),
         }
     }
@@ -83,14 +93,15 @@ impl Run {
     pub fn step(&mut self, word: u64) {
         let strike = drawn(asked(self.slip, word), word, &self.page);
         let new = struck(self.slip, strike, &self.page);
+        let count = new.map_or(0, |new| new.count);
         let before = self.strip;
         let word = next(word);
         self.strip[(word >> 8) as usize % STRIP] = word;
-        let seen = self.preview(strike, &new, room(new.count, word >> 16));
+        let seen = self.preview(strike, new, room(count, word >> 16));
         seen.enter(&mut self.board.previews, &mut self.board.wrong);
-        let strip = handed(self.strip, before, new.count, word >> 32);
-        let lent = room(new.count, word >> 24);
-        let found = self.commit(strike, &new, front(&strip, lent));
+        let strip = handed(self.strip, before, count, word >> 32);
+        let lent = room(count, word >> 24);
+        let found = self.commit(strike, new, front(&strip, lent));
         found.enter(&mut self.board.commits, &mut self.board.wrong);
     }
 }

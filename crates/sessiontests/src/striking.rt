@@ -2,11 +2,11 @@
 use super::drawing::{PAGE, Strike};
 use super::parts::front;
 use pages::Slip;
+use words::Refusal;
 
-// What must come of a strike: why it is refused (0: it is not), how many new lines there are, and their words.
+// What must come of a strike: how many new lines there are, and their words.
 #[derive(Clone, Copy)]
 pub struct New {
-    pub refused: u8,
     pub count: usize,
     words: [u64; PAGE],
 }
@@ -59,35 +59,21 @@ fn new_lines(word: u64, class: u64, length: u64) -> New {
             count = count.wrapping_add(1);
         }
     }
-    New {
-        refused: 0,
-        count,
-        words,
-    }
+    New { count, words }
 }
 
-fn refused(number: u8) -> New {
-    New {
-        refused: number,
-        count: 0,
-        words: [0; PAGE],
-    }
-}
-
-// What must come of a strike with a run's slip, or with one that counts other lines: it is not sound, since a line
-// would be 0, or a word after the lines not 0, or there would be more lines than words.
-pub fn struck(run: Slip, strike: Strike, page: &[u64; PAGE]) -> New {
+// What must come of a strike with a run's slip, or why it must be refused. A slip that counts other lines is not sound,
+// since a line would be 0, or a word after the lines not 0, or there would be more lines than words.
+pub fn struck(run: Slip, strike: Strike, page: &[u64; PAGE]) -> Result<New, Refusal> {
     let lines = strike.slip.lines;
     let line = strike.line;
     let word = page[line % PAGE];
     if lines != run.lines {
-        return refused(7);
+        return Err(Refusal::NotSound);
     }
     if lines <= line {
-        return refused(8);
+        return Err(Refusal::NoSuchLine);
     }
-    match without(word % 0x1_0000_0000, strike.cycle) {
-        Some(class) => new_lines(word, class, strike.cycle),
-        None => refused(9),
-    }
+    let class = without(word % 0x1_0000_0000, strike.cycle).ok_or(Refusal::NoSuchCycle)?;
+    Ok(new_lines(word, class, strike.cycle))
 }

@@ -2,7 +2,9 @@
 use super::board::Row;
 use super::drawing::PAGE;
 use super::parts::front_mut;
-use pages::Slip;
+use pages::{BLANK, Slip};
+use sessiontext::Unloaded;
+use words::Refusal;
 
 // How many bytes are enough for any text of sixteen lines, and one more.
 pub const ROOM: usize = 1409;
@@ -28,18 +30,17 @@ pub fn just_fits(slip: Slip, page: &[u64], text: &[u8]) -> bool {
     let short = sessiontext::save(slip, page, front_mut(&mut bytes, length.wrapping_sub(1)));
     let stays = marked(&bytes);
     let full = sessiontext::save(slip, page, front_mut(&mut bytes, length));
-    (short.refused == 17)
-        & (short.count == 0)
+    (short == Err(Refusal::BufferTooShort))
         & stays
-        & (full.refused == 0)
-        & (full.count == length)
+        & (full == Ok(length))
         & bytes.strip_prefix(text).is_some_and(marked)
 }
 
-// What became of a text that was loaded, and whether that is as promised.
+// What became of a text that was loaded: why it was refused, if it was, and at what line; and whether that is as
+// promised.
 #[derive(Clone, Copy)]
 pub struct Judged {
-    pub refused: u8,
+    pub refused: Option<Refusal>,
     pub line: usize,
     pub right: bool,
 }
@@ -47,7 +48,7 @@ pub struct Judged {
 impl Judged {
     // One text more, in a row by what refused it and in one by whether that was wrong.
     pub fn enter(self, row: &mut Row, wrong: &mut Row) {
-        row.add(usize::from(self.refused));
+        row.tell(self.refused);
         wrong.add(usize::from(!self.right));
     }
 }
@@ -56,23 +57,30 @@ impl Judged {
 // blank, and names a line where it is 16.
 pub fn judge(text: &[u8]) -> Judged {
     let mut page = [WORD; PAGE];
-    let loaded = sessiontext::load(text, &mut page);
-    let refused = loaded.refused;
-    let line = loaded.line;
-    let right = if refused == 0 {
-        (line == 0) & just_fits(loaded.slip, &page, text)
-    } else {
-        (loaded.slip == pages::BLANK) & marked_words(&page) & ((line == 0) == (refused != 16))
-    };
-    Judged {
-        refused,
-        line,
-        right,
+    match sessiontext::load(text, &mut page) {
+        Ok(slip) => Judged {
+            refused: None,
+            line: 0,
+            right: just_fits(slip, &page, text),
+        },
+        Err(
+            Unloaded {
+                refusal,
+                line,
+                slip,
+            },
+        ) => Judged {
+            refused: Some(refusal),
+            line,
+            right: (slip == BLANK)
+                & marked_words(&page)
+                & ((line == 0) == (refusal != Refusal::BadText)),
+        },
     }
 }
 
-// Whether a text is refused by a number and, where that is 16, at a line.
-pub fn refuses(text: &[u8], number: u8, line: usize) -> bool {
+// Whether this refuses a text and, where that is 16, at a line.
+pub fn refuses(text: &[u8], refusal: Refusal, line: usize) -> bool {
     let judged = judge(text);
-    judged.right & (judged.refused == number) & (judged.line == line)
+    judged.right & (judged.refused == Some(refusal)) & (judged.line == line)
 }

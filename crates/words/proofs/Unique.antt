@@ -5,6 +5,9 @@ use Rattle.words.specs.Answers.Laws.{one-outcome}
 use Rattle.words.specs.Calls.{shape_parts_into, class_parts_into}
 use Rattle.words.specs.Calls.Laws.{one-period-told}
 use Rattle.words.proofs.Told.{word-told-once, number-told-once, degree-told-once, count-told-once, good-told-once, shape-told-once}
+use Rattle.words.specs.Parts.{parts_left}
+use Rattle.words.proofs.refusal.Refusal.number.Reads as refusal-number
+use Rattle.words.proofs.parts.Parts.of.Reads as parts-of
 use Rattle.words.proofs.shapes.word.Reads as shape-word
 use Rattle.words.proofs.shapes.read.Reads as shape-reading
 use Rattle.words.proofs.shapes.good.Reads as good-shape
@@ -69,3 +72,12 @@ class-size-once κs a r r' s s' p q = number-told-once (p ∙ sym q)
 pub class-period-once : (κs : _) (a : _) (r r' : _) (s s' : _) → class-period.Post κs a r s
     → class-period.Post κs a r' s' → r ≡ r'
 class-period-once κs a r r' s s' p q = number-told-once (one-period-told degree_limit a.0 p q)
+
+-- ---- refusals, and the parts of a word
+pub refusal-number-once : (κs : _) (a : _) (r r' : _) (s s' : _) → refusal-number.Post κs a r s
+    → refusal-number.Post κs a r' s' → r ≡ r'
+refusal-number-once κs a r r' s s' p q = p ∙ sym q
+
+pub parts-of-once : (κs : _) (a : _) (r r' : _) (s s' : _) → parts-of.Post κs a r s → parts-of.Post κs a r' s'
+    → parts_left r ≡ parts_left r'
+parts-of-once κs a r r' s s' p q = p.0 ∙ sym q.0

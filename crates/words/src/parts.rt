@@ -1,5 +1,5 @@
 // The parts of a class word, one after the other.
-ghost use Rattle.std.specs.Prelude.{◌≡◌, ◌<◌, ◌^◌};
+ghost use Rattle.std.specs.Prelude.{◌≡◌, ◌<◌, ◌%◌, ◌^◌};
 ghost use Rattle.theory.specs.ClassWord.{class_of};
 
 // The digits of a word that are still to be read, moved up to the first.
@@ -12,12 +12,14 @@ pub struct Parts {
 impl Parts {
     ghost use Rattle.words.specs.Parts.{parts_left};
 
-    // The parts of a class word. Of any other word, how many digits it is from each one to the next.
+    // The parts of a class word. Of any other word, how many digits it is from each one to the next, bit 31 left out.
     pub fn of(word: u32) -> Parts
-        requires { word < 2 ^ 31 }
-        ensures { parts_left result ≡ class_of word }
+        ensures digits { parts_left result ≡ class_of (word % 2 ^ 31) }
+        ensures parts { word < 2 ^ 31 → parts_left result ≡ class_of word }
     {
-        Parts { rest: word }
+        Parts {
+            rest: word % 0x8000_0000,
+        }
     }
 }
 

@@ -1,4 +1,5 @@
 -- Each row takes its zero out of the ones, and at the end those behind the last row go.
+use borrow.Author.Rules.{rules}
 use Rattle.std.specs.Prelude.{◌≡◌, ◌++◌, ◌+◌, ◌-◌, ◌^◌, ◌<◌, ◌≤◌}
 use Rattle.std.proofs.Common.{sym, ap, ◌∙◌, arith, pos_of_ne-zero}
 use Rattle.std.specs.Int.Count.{count_leading_zeros}
@@ -40,7 +41,7 @@ loop-part-init c =
     let w : ℕ = c.args.word in
     let p = c.requires in
     let fits = small-has-room (class_of w) p.good.partition (omega arith) in
-    let whole = ap parts_left c.into_iter-part-iterator.ensures.into_iter_gives ∙ c.of-part-items.ensures in
+    let whole = ap parts_left c.into_iter-part-iterator.ensures.into_iter_gives ∙ c.of-part-items.ensures.parts (search rules) in
     (tt, tt, start w _ whole c.if-word-eq0.false p.good.below p.good.partition (omega (arith, fits.room)))
 
 pub overflow_sub-bits : goal.overflow_sub-bits

@@ -1,4 +1,5 @@
 -- The digits complemented have a one for each row.
+use borrow.Author.Rules.{rules}
 use Rattle.std.specs.Prelude.{◌≡◌, ◌+◌, ◌-◌, ◌*◌, ◌%◌, ◌^◌, ◌<◌, ◌≤◌}
 use Rattle.std.proofs.Common.{sym, ap, ◌∙◌, arith, pow_pos}
 use Rattle.std.specs.Int.Count.{count_trailing_zeros}
@@ -50,7 +51,7 @@ pub loop-part-init : goal.loop-part-init
 loop-part-init c =
     let w : ℕ = c.args.word in
     let s = complemented w c.if-word-eq0.false (omega (arith, c.requires.good.below)) in
-    let whole = ap parts_left c.into_iter-part-iterator.ensures.into_iter_gives ∙ c.of-part-items.ensures in
+    let whole = ap parts_left c.into_iter-part-iterator.ensures.into_iter_gives ∙ c.of-part-items.ensures.parts (search rules) in
     let rows = ap (rows_after (Count.ones w)) whole ∙ s.rows in
     (tt, tt, start_writing (shape_of w) rows (rows-have-room 31 w).partition (omega (arith, c.requires.small)))
 

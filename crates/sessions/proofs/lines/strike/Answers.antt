@@ -1,4 +1,5 @@
 -- Where the cycle stands, what is behind it moves up.
+use borrow.Author.Rules.{rules}
 use Rattle.std.specs.Prelude.{◌≡◌, ◌-◌, ◌%◌, ◌^◌}
 use Rattle.std.proofs.Common.{◌∙◌, ap, arith, mod-eq_of_lt}
 use Rattle.theory.specs.Basics.{ℕ}
@@ -12,7 +13,7 @@ use Rattle.sessions.proofs.lines.strike.Goals as goal
 pub loop-part-init : goal.loop-part-init
 loop-part-init c =
     let w : ℕ = c.args.class in
-    let whole = ap parts_left c.into_iter-part-iterator.ensures.into_iter_gives ∙ c.of-part-items.ensures in
+    let whole = ap parts_left c.into_iter-part-iterator.ensures.into_iter_gives ∙ c.of-part-items.ensures.parts (search rules) in
     let all : w % 2 ^ 31 ≡ w = mod-eq_of_lt c.requires in
     (tt, tt, rw all (strike-start w c.args.cycle c.requires whole))
 

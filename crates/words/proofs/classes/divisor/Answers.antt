@@ -1,4 +1,5 @@
 -- Each part is multiplied with how often it has occurred, for which there is room.
+use borrow.Author.Rules.{rules}
 use Rattle.std.specs.Prelude.{◌≡◌, ◌∷◌, ◌+◌, ◌-◌, ◌*◌, ◌<◌, ◌≤◌, ◌^◌}
 use Rattle.std.proofs.Common.{refl, sym, ◌∙◌, ap, le_refl, mul-le-mul, mul_assoc, mul-one, arith, eq-eqb, ne_eqb}
 use Rattle.theory.specs.Basics.{ℕ}
@@ -43,7 +44,7 @@ turn last times p t product whole left rest e some m room same occurs =
 pub loop-part-init : goal.loop-part-init
 loop-part-init c =
     let ps : Parts = class_of c.args.word in
-    let whole = ap parts_left c.into_iter-part-iterator.ensures.into_iter_gives ∙ c.of-part-items.ensures in (
+    let whole = ap parts_left c.into_iter-part-iterator.ensures.into_iter_gives ∙ c.of-part-items.ensures.parts (search rules) in (
       tt,
       tt,
       start_multiplying ps whole c.requires.small,

@@ -1,4 +1,5 @@
 -- A part that divides what has been reached multiplies by 1, so that a turn that passes it over multiplies too.
+use borrow.Author.Rules.{rules}
 use Rattle.std.specs.Prelude.{◌≡◌, ◌∷◌, ◌*◌, ◌%◌, ◌<◌, ◌^◌}
 use Rattle.std.proofs.Common.{refl, sym, ◌∙◌, ap, mul-one, arith}
 use Rattle.theory.specs.Basics.{ℕ}
@@ -44,7 +45,7 @@ passed last p multiple h e some =
 pub loop-part-init : goal.loop-part-init
 loop-part-init c =
     let ps : Parts = class_of c.args.word in
-    let whole = ap parts_left c.into_iter-part-iterator.ensures.into_iter_gives ∙ c.of-part-items.ensures in
+    let whole = ap parts_left c.into_iter-part-iterator.ensures.into_iter_gives ∙ c.of-part-items.ensures.parts (search rules) in
     (tt, tt, start_multiplying ps whole c.requires.small, λ h. absurd (omega arith), ap (period_from 1) whole)
 
 pub multiplier-multiple-requires : goal.multiplier-multiple-requires

@@ -1,4 +1,5 @@
 -- A part that rises is no partition's, and one that does not leaves the question to those behind it.
+use borrow.Author.Rules.{rules}
 use Rattle.std.specs.Prelude.{◌≡◌, ◌∷◌, ◌<◌, ◌≤◌, ◌^◌}
 use Rattle.std.proofs.Common.{sym, ◌∙◌, ap, arith, lt-ltb, le-ltb}
 use Rattle.theory.specs.Basics.{true, false, [], ℕ, length}
@@ -24,7 +25,7 @@ returns-then-word-ge2147483648 c = bad c.args.word (bad-above c.args.word c.if-w
 pub loop-part-init : goal.loop-part-init
 loop-part-init c =
     let w : ℕ = c.args.word in
-    let whole = ap parts_left c.into_iter-part-iterator.ensures.into_iter_gives ∙ c.of-part-items.ensures in
+    let whole = ap parts_left c.into_iter-part-iterator.ensures.into_iter_gives ∙ c.of-part-items.ensures.parts (search rules) in
     let small : first (class_of w) ≤ 31 = omega (arith, first-degree (class_of w), parts-room w) in (
       tt,
       tt,

@@ -1,4 +1,5 @@
 -- Each part goes to its place, for which there is room.
+use borrow.Author.Rules.{rules}
 use Rattle.std.specs.Prelude.{◌+◌}
 use Rattle.std.proofs.Common.{◌≡◌, ◌∙◌, ap, inl, arith}
 use Rattle.theory.specs.Basics.{length}
@@ -11,7 +12,7 @@ use Rattle.words.proofs.classes.write_parts.Goals as goal
 pub loop-i-init : goal.loop-i-init
 loop-i-init c =
     let e = c.enumerate-i-items.ensures in
-    let whole = ap parts_left e.source ∙ c.of.ensures in
+    let whole = ap parts_left e.source ∙ c.of.ensures.parts (search rules) in
     let few = few-parts c.args.word in
     rw (c.into_iter-i-iterator.ensures.into_iter_gives, e.count, whole)
     ((tt, tt, inl (omega (arith, few))), tt, omega (arith, few), put-start _ _ c.requires.1)

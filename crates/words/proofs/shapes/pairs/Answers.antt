@@ -1,4 +1,5 @@
 -- Leading zeros give the next one, which is paired with the zeros before it.
+use borrow.Author.Rules.{rules}
 use Rattle.std.proofs.Common.{◌∙◌, ap, arith}
 use Rattle.theory.specs.Basics.{ℕ}
 use Rattle.theory.specs.Partition.{degree}
@@ -11,7 +12,7 @@ use Rattle.words.proofs.shapes.pairs.Goals as goal
 pub loop-part-init : goal.loop-part-init
 loop-part-init c =
     let w : ℕ = c.args.word in
-    let whole = ap parts_left c.into_iter-part-iterator.ensures.into_iter_gives ∙ c.of-part-items.ensures in (
+    let whole = ap parts_left c.into_iter-part-iterator.ensures.into_iter_gives ∙ c.of-part-items.ensures.parts (search rules) in (
       tt,
       tt,
       omega (arith, ap degree whole, parts-room w),

@@ -6,17 +6,17 @@ use sessions::Refused;
 use sessiontext::Unloaded;
 use words::Refusal;
 
+// The answer of a call that is refused and hands back this slip.
+fn refused(refusal: Refusal, slip: Slip) -> Result<Slip, Refused> {
+    Err(Refused { refusal, slip })
+}
+
 // No word: degree 0 opens with settled 1, and (1) on (1) is refused.
 pub fn no_word() -> bool {
     let mut page = [0u64; 0];
     let opened = sessions::open(0, 0, &mut page);
     let full = sessions::open(0x2000_0000, 0x4000_0000, &mut page);
     opened.is_ok_and(|slip| slip.settled == 1) & (full == refused(Refusal::PageFull, BLANK))
-}
-
-// The answer of a call that is refused and hands back this slip.
-fn refused(refusal: Refusal, slip: Slip) -> Result<Slip, Refused> {
-    Err(Refused { refusal, slip })
 }
 
 // One word: (2,1) on (1^3), struck by 1, has no room for two lines, nor has a strip of one word, which is not their

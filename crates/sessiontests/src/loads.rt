@@ -32,7 +32,6 @@ impl Run {
             self.saved.length
         };
         let text = front(&self.text, length);
-        let fault = line_cut(text, self.saved.slip.lines);
         let loaded = sessiontext::load(text, &mut self.page);
         let kept = self.page == self.twin;
         let other = sessiontext::load(front(&self.other, length), &mut self.twin);
@@ -43,15 +42,10 @@ impl Run {
                     & (watches(slip, &self.page) == self.saved.shown);
                 (true, back, !cut)
             }
-            Err(
-                Unloaded {
-                    refusal,
-                    line,
-                    slip,
-                },
-            ) => {
-                let told = cut & (refusal == Refusal::BadText) & (line == fault);
-                (kept & (slip == BLANK), true, told)
+            Err(unloaded) => {
+                let fault = line_cut(text, self.saved.slip.lines);
+                let told = (unloaded.refusal == Refusal::BadText) & (unloaded.line == fault);
+                (kept & (unloaded.slip == BLANK), true, cut & told)
             }
         };
         self.slip = loaded.unwrap_or(self.slip);

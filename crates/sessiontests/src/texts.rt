@@ -3,7 +3,6 @@ use super::board::Row;
 use super::drawing::PAGE;
 use super::parts::front_mut;
 use pages::{BLANK, Slip};
-use sessiontext::Unloaded;
 use words::Refusal;
 
 // How many bytes are enough for any text of sixteen lines, and one more.
@@ -63,18 +62,12 @@ pub fn judge(text: &[u8]) -> Judged {
             line: 0,
             right: just_fits(slip, &page, text),
         },
-        Err(
-            Unloaded {
-                refusal,
-                line,
-                slip,
-            },
-        ) => Judged {
-            refused: Some(refusal),
-            line,
-            right: (slip == BLANK)
+        Err(unloaded) => Judged {
+            refused: Some(unloaded.refusal),
+            line: unloaded.line,
+            right: (unloaded.slip == BLANK)
                 & marked_words(&page)
-                & ((line == 0) == (refusal != Refusal::BadText)),
+                & ((unloaded.line == 0) == (unloaded.refusal != Refusal::BadText)),
         },
     }
 }

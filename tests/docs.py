@@ -163,26 +163,29 @@ def reasoned(cell):
 
 
 def wrong_theorem(function, crate, cell):
+    """The first theorem of a cell is of the function; those behind it are its instances, or what it is made of."""
     names = re.findall(r'`([^`]+)`', cell)
     if reasoned(cell):
         return
-    if len(names) != 1:
-        yield 'names no theorem, or more than one'
+    if not names:
+        yield 'names no theorem'
         return
     file = 'crates/%s/proofs/Unique.antt' % crate
     items, brought = tree.module(file) if os.path.exists(file) else ({}, {})
-    item = items.get(names[0])
-    if not item or not item.text.startswith('pub '):
-        yield '%s has no theorem %s' % (file, names[0])
-        return
+    for name in names:
+        if name not in items or not items[name].text.startswith('pub '):
+            yield '%s has no theorem %s' % (file, name)
+            return
+    item = items[names[0]]
     reads = 'Rattle.%s.proofs.%s.Reads' % (crate, '.'.join(function.split('::')[1:]))
     alias = [name[1:] for name, (module, _) in brought.items() if module == reads and name.startswith('*')]
     if not alias or item.statement.count(' %s.Post ' % alias[0]) != 2:
         yield '%s is not about this function' % names[0]
         return
-    of, other = (' %s.Post κs a %s ' % (alias[0], outcome) for outcome in ('r s', "r' s'"))
+    # of a generic function, its types and traits stand in front
+    of, other = (r' %s\.Post (?:\S+ )*?κs a %s ' % (re.escape(alias[0]), outcome) for outcome in ('r s', "r' s'"))
     said = item.statement.rpartition('→')[2]
-    if of not in item.statement or other not in item.statement or "r ≡ r'" not in said:
+    if not re.search(of, item.statement) or not re.search(other, item.statement) or not re.search("r ≡ .*r'", said):
         yield '%s does not say that two outcomes are one' % names[0]
     if len(re.findall(r"\bs\.[\d.]+\.now ≡ s'\.[\d.]+\.now\b", said)) != tree.functions()[function].lent:
         yield '%s does not say so of each lent run' % names[0]
@@ -201,6 +204,13 @@ def wrong_edits(crate, cell):
         yield '%d edits, two wanted' % len(names)
 
 
+def of_trait(function):
+    """Whether this is a method of a public trait of its crate, on one of its types."""
+    crate, owner = function.split('::')[0], function.split('::')[-2]
+    traits = re.findall(r'^pub trait (\w+)', tree.read('crates/%s/src/lib.rt' % crate), re.M)
+    return function in tree.functions() and any(owner.endswith(trait) and owner != trait for trait in traits)
+
+
 def wrong_promises(text):
     rows = rows_of(text)
     found = [function for function, _, _ in rows]
@@ -212,7 +222,7 @@ def wrong_promises(text):
             yield '%s has no ensures, or a requires' % path
     for function, theorem, edits in rows:
         crate = function.split('::')[0]
-        if function not in public:
+        if function not in public and not of_trait(function):
             yield '%s is no public function' % function
             continue
         for why in [*wrong_theorem(function, crate, theorem), *wrong_edits(crate, edits)]:

@@ -80,17 +80,28 @@ def promises(contract):
         yield contract[m.end():at - 1]
 
 
+IMPL = r'^impl(?:<[^>]*>)? (\w+)(?:<.*>)?(?: for (\S+))? \{'
+
+
+def owner(name, given):
+    """What Rattle calls a block: a type, or of a trait the type and the trait, as `U64Written`."""
+    if given is None:
+        return name
+    given = 'RefSlice' if given.startswith('&[') else re.sub(r'.*::|<.*', '', given)
+    return given[0].upper() + given[1:] + name
+
+
 def functions_in(path, file, reached):
     """The functions of a file and of the modules that it names. `reached`: `pub mod` lines lead here."""
     text = without_comments(read(file))
-    owners = [(m.start(), m[1]) for m in re.finditer(r'^impl(?:<[^>]*>)? (\w+)', text, re.M)]
+    owners = [(m.start(), owner(m[1], m[2])) for m in re.finditer(IMPL, text, re.M)]
     for m in FUNCTION.finditer(text):
         rest = text[m.end():]
         body = re.search(r'\n[ \t]*\{[ \t]*\n', rest)
         contract = rest[:body.start()] if body else rest.split('\n}')[0]
-        owner = [name for start, name in owners if start < m.start()] if m['in'] else []
+        inside = [name for start, name in owners if start < m.start()] if m['in'] else []
         yield Function(
-            path='::'.join(path + owner[-1:] + [m['name']]),
+            path='::'.join(path + inside[-1:] + [m['name']]),
             public=bool(m['pub']) and (reached or bool(m['extern'])),
             promise=' '.join(promises(contract)),
             asks='requires' in contract,

@@ -185,7 +185,7 @@ def wrong_theorem(function, crate, cell):
     # of a generic function, its types and traits stand in front
     of, other = (r' %s\.Post (?:\S+ )*?κs a %s ' % (re.escape(alias[0]), outcome) for outcome in ('r s', "r' s'"))
     said = item.statement.rpartition('→')[2]
-    if not re.search(of, item.statement) or not re.search(other, item.statement) or not re.search("r ≡ .*r'", said):
+    if not re.search(of, item.statement) or not re.search(other, item.statement) or not re.search(r"\br ≡ (?:\S+ )?r'", said):
         yield '%s does not say that two outcomes are one' % names[0]
     if len(re.findall(r"\bs\.[\d.]+\.now ≡ s'\.[\d.]+\.now\b", said)) != tree.functions()[function].lent:
         yield '%s does not say so of each lent run' % names[0]
@@ -206,9 +206,11 @@ def wrong_edits(crate, cell):
 
 def of_trait(function):
     """Whether this is a method of a public trait of its crate, on one of its types."""
+    if function not in tree.functions():
+        return False
     crate, owner = function.split('::')[0], function.split('::')[-2]
     traits = re.findall(r'^pub trait (\w+)', tree.read('crates/%s/src/lib.rt' % crate), re.M)
-    return function in tree.functions() and any(owner.endswith(trait) and owner != trait for trait in traits)
+    return any(owner.endswith(trait) and owner != trait for trait in traits)
 
 
 def wrong_promises(text):

@@ -39,8 +39,10 @@ def functions(files):
             while depth and at < len(text):
                 depth += {'(': 1, ')': -1}.get(text[at], 0)
                 at += 1
-            body = text.find('\n{', at)
-            end = text.find('\n}', body)
+            indent = re.match(' *', text[text.rfind('\n', 0, m.start()) + 1:]).group()
+            opened = re.compile(r'\n%s\{$|^(?!.*\bensures\b).* \{$' % indent, re.M).search(text, at)
+            body = opened.end() - 1 if opened else -1
+            end = text.find('\n%s}' % indent, body)
             if body < 0 or end < 0:
                 continue
             yield name, m.group(1), text[m.end():at - 1], text[at:body], text[body:end]

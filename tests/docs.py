@@ -163,7 +163,7 @@ def reasoned(cell):
 
 
 def wrong_theorem(function, crate, cell):
-    """The first theorem of a cell is of the function; those behind it are its instances, or what it is made of."""
+    """Each theorem of a cell is about the function: of a generic one, the first of all types and then of some."""
     names = re.findall(r'`([^`]+)`', cell)
     if reasoned(cell):
         return
@@ -172,23 +172,24 @@ def wrong_theorem(function, crate, cell):
         return
     file = 'crates/%s/proofs/Unique.antt' % crate
     items, brought = tree.module(file) if os.path.exists(file) else ({}, {})
+    reads = 'Rattle.%s.proofs.%s.Reads' % (crate, '.'.join(function.split('::')[1:]))
+    alias = [name[1:] for name, (module, _) in brought.items() if module == reads and name.startswith('*')]
     for name in names:
         if name not in items or not items[name].text.startswith('pub '):
             yield '%s has no theorem %s' % (file, name)
             return
-    item = items[names[0]]
-    reads = 'Rattle.%s.proofs.%s.Reads' % (crate, '.'.join(function.split('::')[1:]))
-    alias = [name[1:] for name, (module, _) in brought.items() if module == reads and name.startswith('*')]
-    if not alias or item.statement.count(' %s.Post ' % alias[0]) != 2:
-        yield '%s is not about this function' % names[0]
-        return
-    # of a generic function, its types and traits stand in front
-    of, other = (r' %s\.Post (?:\S+ )*?κs a %s ' % (re.escape(alias[0]), outcome) for outcome in ('r s', "r' s'"))
-    said = item.statement.rpartition('→')[2]
-    if not re.search(of, item.statement) or not re.search(other, item.statement) or not re.search(r"\br ≡ (?:\S+ )?r'", said):
-        yield '%s does not say that two outcomes are one' % names[0]
-    if len(re.findall(r"\bs\.[\d.]+\.now ≡ s'\.[\d.]+\.now\b", said)) != tree.functions()[function].lent:
-        yield '%s does not say so of each lent run' % names[0]
+        statement = items[name].statement
+        if not alias or statement.count(' %s.Post ' % alias[0]) != 2:
+            yield '%s is not about this function' % name
+            return
+        # of a generic function, its types and traits stand in front
+        of, other = (r' %s\.Post (?:\S+ )*?κs a %s ' % (re.escape(alias[0]), outcome) for outcome in ('r s', "r' s'"))
+        said = statement.rpartition('→')[2]
+        same = re.search(r"(?:^|\(| )((?:\w+ )?)r ≡ \1r'", said)
+        if not re.search(of, statement) or not re.search(other, statement) or not same:
+            yield '%s does not say that two outcomes are one' % name
+        if len(re.findall(r"\bs\.[\d.]+\.now ≡ s'\.[\d.]+\.now\b", said)) != tree.functions()[function].lent:
+            yield '%s does not say so of each lent run' % name
 
 
 def wrong_edits(crate, cell):
@@ -381,7 +382,7 @@ def unnoticed(texts):
 
 
 def main():
-    files = ['README.md', *(file for file in sorted(glob.glob('docs/*.md')) if not file.startswith('docs/PORT'))]
+    files = ['README.md', *(file for file in sorted(glob.glob('docs/*.md')) if not file.startswith(('docs/PORT', 'docs/DESIGN-PASS')))]
     texts = {page: tree.read(page) for page in files}
     found = sorted(set(lacking(texts))) or list(unnoticed(texts))
     for line in found:

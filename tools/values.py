@@ -48,7 +48,7 @@ from texts import (  # noqa: E402
 
 CRATES = ['theory', 'text', 'textreading', 'words', 'listing', 'oldlists', 'pairs', 'linewords', 'pages', 'sessions',
           'characters', 'classcolumns', 'sessiontext']
-NO_SPECS = ['clearing', 'hooks']  # what some of them rest on, and that defines nothing
+NO_SPECS = ['clearing', 'hooks']  # what some of them rest on, and that defines no value that a promise speaks of
 
 
 # ---- values as text of antt
@@ -1093,12 +1093,12 @@ CONSTRUCTORS = {
     'Rattle.theory.specs.Basics': 'Bool true false List [] ◌∷◌ ◌++◌ replicate get_or ℕ ℤ pos negsuc'.split(),
     'Rattle.theory.specs.Hooks': ['Hook'],
     'Rattle.theory.specs.ClassData.Periods': ['period_from'],  # of a file of laws, which `definitions` passes over
-    'Rattle.words.specs.declared.CountAnswer': ['CountAnswer'],
-    'Rattle.oldlists.specs.declared.ListAnswer': ['ListAnswer'],
+    'Rattle.words.specs.Answers': ['CountAnswer'],
+    'Rattle.oldlists.specs.Lists': ['ListAnswer'],
     'Rattle.pages.specs.declared.Slip': ['Slip'],
     'Rattle.pages.specs.Line': ['Line'],
-    'Rattle.sessions.specs.declared.Handed': ['Handed'],
-    'Rattle.sessiontext.specs.declared.Loaded': ['Loaded'],
+    'Rattle.sessions.specs.Opening': ['Handed'],
+    'Rattle.sessiontext.specs.Calls': ['Loaded'],
     'Rattle.characters.specs.Watch': ['Value', 'whole', 'quotient', 'none'],
     'lib.Ieee': ['Float', 'fin'],
     'mathlib.Core.Path': ['◌≡◌', 'refl'],

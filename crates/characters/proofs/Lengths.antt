@@ -1,16 +1,21 @@
 -- The lengths of the hooks of a word are multiplied one by one. What is left over has no 0 among its factors, so that
 -- no product on the way is above the whole one, which divides n!.
+--   Multiplied whole h left all       the product `all` and h for each place of the marks `left` are the whole
+--   Next whole h left all z one       the next of these: the highest mark counts `one`
 --   Divides s so_far lengths h        so far h!, and the lengths up to h of the hooks of the word s
 --   NextLength s so_far lengths h     the same with a further length h
 --   Quotient s so_far lengths         n! and all lengths: divided, they are the character degree
-use Rattle.std.specs.Prelude.{◌+◌, ◌-◌, ◌*◌, ◌/◌, ◌^◌}
+use Rattle.std.specs.Prelude.{◌+◌, ◌-◌, ◌*◌, ◌/◌, ◌%◌, ◌^◌}
 use mathlib.Core.Path.{◌≡◌, refl, sym, ◌∙◌, ap}
 use Prim.Native.Nat.{◌≤◌, ◌<◌}
-use native.Mathlib.Nat.{mul-pos, mul-one, one-mul, pow-suc, mul_assoc, mul_comm}
+use native.Mathlib.Nat.{pos_of_ne-zero, mul-pos, mul-one, one-mul, pow-suc, pow-zero, mul_assoc, mul_comm}
 use native.Mathlib.Nat.{sub-zero, sub_self, one-le-pow, le-mul_of_pos_right, lt_of_le_of_lt, div-eq_of_eq-mul_left}
 use native.Mathlib.Omega.{arith}
+use lib.Count.{count_leading_zeros}
+use lib.ListN.{length-map}
 use Rattle.theory.specs.Basics.{ℕ, zero, suc, length, pos, nat_abs}
 use Rattle.theory.specs.Partition.{degree}
+use Rattle.theory.specs.Digits.{width}
 use Rattle.theory.specs.ShapeWord.{shape_of}
 use Rattle.theory.specs.Bounds.{factorial}
 use Rattle.theory.specs.Bounds.Laws.{largest_limit}
@@ -18,17 +23,59 @@ use Rattle.theory.proofs.Bounds.Laws.{factorial-rises}
 use Rattle.theory.specs.Character.{character_degree}
 use Rattle.theory.specs.Hooks.{hook_words}
 use Rattle.theory.proofs.Hooks.Degrees.{degree-positive, degree-bounded}
+use Rattle.theory.specs.Hooks.Marks.{marks, places}
+use Rattle.theory.proofs.Hooks.Marks.Laws.{hooks-marked}
+use Rattle.theory.proofs.Hooks.Marks.Walk.{highest, places-none}
 use Rattle.theory.proofs.Frobenius.HookLengths.{hook_powers, hook-lengths}
 use Rattle.theory.specs.Refusals.Laws.{Within}
 use Rattle.words.proofs.Factorials.{factorial-fits}
 use Rattle.pages.proofs.Signed.{carried, carried-is}
 
 -- ---- the hooks of one length
-pub lengths-next : (all h k whole : ℕ) → 0 < h → all * h ^ suc k ≡ whole → (all * h * h ^ k ≡ whole) × (all * h ≤ whole)
-lengths-next all h k whole long comes =
+pub length-next : (all h k whole : ℕ) → 0 < h → all * h ^ suc k ≡ whole → (all * h * h ^ k ≡ whole) × (all * h ≤ whole)
+length-next all h k whole long comes =
     let same : all * h * h ^ k ≡ whole =
     mul_assoc all h (h ^ k) ∙ ap (λ (x : ℕ). all * x) (mul_comm h (h ^ k) ∙ sym (pow-suc h k)) ∙ comes in
     (same, rw same at (le-mul_of_pos_right (all * h) (one-le-pow k h long)))
+
+-- by marks, the digits at which hooks end
+pub record Multiplied (whole h left all : ℕ) : Type 0 where
+  pub below : left < 2 ^ width
+  pub comes : all * h ^ length (places width left) ≡ whole
+
+pub record Next (whole h left all z one : ℕ) : Type 0 where
+  pub within : z ≤ 31
+  pub bits : 31 - z < 32
+  pub some : 0 < one
+  pub takes : one ≤ left
+  pub room : all * h ≤ whole
+  pub multiplied : Multiplied whole h (left - one) (all * h)
+
+pub lengths-start : (all s h : ℕ) → 0 < h → s < 2 ^ width
+    → Multiplied (all * h ^ length (hook_words h s)) h (marks s h) all
+lengths-start all s h long small = record {
+  below = unfold marks in omega arith;
+  comes = rw (hooks-marked h s long small, length-map);
+}
+
+pub lengths-end : {whole h all : ℕ} → Multiplied whole h 0 all → all ≡ whole
+lengths-end {whole} {h} {all} m = sym (mul-one all) ∙ rw (places-none width, pow-zero h) at m.comes
+
+pub lengths-next : {whole h left all : ℕ} → 0 < h → Multiplied whole h left all → (left ≡ 0 → ⊥)
+    → Next whole h left all (count_leading_zeros 32 left) (1 * 2 ^ (31 - count_leading_zeros 32 left) % 2 ^ 32)
+lengths-next {whole} {h} {left} {all} long m more =
+    let top = highest width left (pos_of_ne-zero more) m.below in
+    let one : ℕ = 1 * 2 ^ (31 - count_leading_zeros 32 left) % 2 ^ 32 in
+    let k : ℕ = length (places width (left - one)) in
+    let next = length-next all h k whole long (rw top.rest at m.comes) in
+    record {
+      within = top.within;
+      bits = omega (arith, top.below);
+      some = top.some;
+      takes = top.takes;
+      room = next.1;
+      multiplied = record { below = omega (arith, m.below); comes = next.0 };
+    }
 
 -- ---- the hooks of all lengths
 powers-positive : (i n s : ℕ) → 0 < i → 0 < hook_powers i n s

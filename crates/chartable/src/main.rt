@@ -11,19 +11,22 @@ fn room() -> [u8; tabletext::ROOM] {
     [0; tabletext::ROOM]
 }
 
-// Reads until a buffer is full or the input ends (a loop over what comes, and over no index), and counts the bytes that it put at the buffer's front: where a
-// reader's bytes are known, the first ones, as many as the buffer has room for.
-fn read_full<R: Read + Drop>(mut reader: R, buffer: &mut [u8]) -> io::Result<usize>
+// Reads until a buffer is full or the input ends, and counts the bytes that it put at the buffer's front: where a
+// reader's bytes are known, the first ones, as many as the buffer has room for. They come one by one, since `bytes` goes
+// on where a signal broke off a read, and `read` does not.
+fn read_full<R: Read + Drop>(reader: R, buffer: &mut [u8]) -> io::Result<usize>
     ensures fits { IfOk result (λ n. n ≤ length buffer.new) }
     ensures bytes { IfOk result (λ n. IfSome (R.remaining reader)
         (λ xs. take n buffer.new ≡ take (length buffer.new) xs)) }
 {
+    let mut bytes = reader.bytes();
     let mut count = 0;
     while count < buffer.len() {
-        match reader.read(&mut buffer[count..])? {
-            0 => break,
-            more => count += more,
+        match bytes.next() {
+            None => break,
+            Some(byte) => buffer[count] = byte?,
         }
+        count += 1;
     }
     Ok(count)
 }

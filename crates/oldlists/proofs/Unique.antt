@@ -15,7 +15,7 @@ use Rattle.oldlists.proofs.from_old.Reads as shapes-from-old
 use Rattle.oldlists.proofs.to_old.Reads as shapes-to-old
 
 -- no two results are told alike
-pub list-told-once : {r s : Result ⊤ Rejected} → list_told r ≡ list_told s → r ≡ s
+list-told-once : {r s : Result ⊤ Rejected} → list_told r ≡ list_told s → r ≡ s
 list-told-once {r = Ok x} {s = Ok y} e = refl
 list-told-once {r = Ok x} {s = Err d} e = absurd (refuses d.refusal (sym (ap (λ (a : ListAnswer). a.refused) e)))
 list-told-once {r = Err c} {s = Ok y} e = absurd (refuses c.refusal (ap (λ (a : ListAnswer). a.refused) e))

@@ -19,6 +19,7 @@ use Rattle.theory.specs.Hooks.{Hook, hook_words}
 use Rattle.theory.specs.Hooks.Words.{Left}
 use Rattle.theory.proofs.Hooks.Words.{hooks-leave}
 use Rattle.theory.specs.Bounds.Laws.{largest_limit}
+use Rattle.theory.proofs.Bounds.Laws.{abs-add, abs-signed}
 use Rattle.words.specs.Answers.{Outcome}
 use Rattle.words.proofs.Columns.{Putting, put-start, put_all}
 use Rattle.pages.specs.Line.{Line, hook_lines}
@@ -26,7 +27,7 @@ use Rattle.pages.specs.Line.Hooks.{hook-lines-few}
 use Rattle.pages.specs.Line.Weights.{weight_of}
 use Rattle.pages.specs.Page.{line_of, word_of}
 use Rattle.pages.specs.Page.{plain}
-use Rattle.pages.proofs.Signed.{room}
+use Rattle.pages.proofs.Signed.{carried, carried-is, room}
 use Rattle.sessions.specs.Step.{empty, settled_hooks, waiting_hooks}
 use Rattle.sessions.proofs.Step.Strike.{cycle-positive}
 use Rattle.sessions.specs.Private.Striking.{multiplied, Strikes, hook_count, stripped}
@@ -66,6 +67,13 @@ signed-multiplied false b z = refl
 
 abbrev made_line : ℕ → ℕ → Hook ℕ → Line
 made_line x class hook = plain (multiplied (bit 63 x) hook.minus) hook.leaves class
+
+-- ---- a sum with one sign more
+pub one_more : (z : ℤ) (minus : Bool) → nat_abs (z +ℤ signed minus (pos 1)) ≤ nat_abs z + 1
+one_more z minus = omega (arith, abs-add z (signed minus (pos 1)), abs-signed minus (pos 1))
+
+pub unit-carried : (minus : Bool) → carried (signed minus (pos 1)) ≡ signed minus (pos 1)
+unit-carried minus = carried-is (signed minus (pos 1)) (omega (arith, abs-signed minus (pos 1)))
 
 -- ---- the walk
 module _ (cycle x class : ℕ) (lent : List ℕ) where

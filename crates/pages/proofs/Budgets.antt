@@ -1,7 +1,7 @@
 -- Two budgets that fall as the words of a page are read: what one word does to them, and what they are at first.
-use Rattle.std.specs.Prelude.{◌&&◌, ◌∷◌, ◌+◌, ◌-◌, ◌*◌}
+use Rattle.std.specs.Prelude.{Option, Some, None, ◌&&◌, ◌∷◌, ◌+◌, ◌-◌, ◌*◌}
+use Rattle.std.specs.Option.{is_some}
 use mathlib.Core.Path.{◌≡◌, refl, sym, ◌∙◌, ap}
-use mathlib.Core.Bool.{false≢true}
 use Prim.Native.Nat.{min, ◌≤◌, ◌<◌}
 use native.Mathlib.Numerals.{add-one}
 use native.Mathlib.Omega.{arith}
@@ -20,9 +20,26 @@ use Rattle.pages.specs.Page.{line_of, Slip}
 use Rattle.pages.specs.Page.Words.{unit-weight}
 use Rattle.pages.specs.Sound.{sound_line, sound_words}
 use Rattle.pages.specs.Sound.Laws.{sound-line, asked}
-use Rattle.pages.specs.Budget.{left, overspent, budget_of, spent_on, spent_all, Budget}
+use Rattle.pages.specs.declared.Budget.{Budget as Kept}
+use Rattle.pages.specs.Budget.{left, overspent, budget_told, budget_of, spent_on, spent_all, Budget}
 use Rattle.pages.specs.Budget.Laws.{overspent-stays}
 use Rattle.pages.specs.Private.Degrees.{sound_degree, most_degree, paid_for}
+
+-- ---- what is told of a budget
+pub enough-told : (r : Option Kept) → is_some r ≡ (budget_told r).enough
+enough-told None = refl
+enough-told (Some b) = refl
+
+kept : Budget → Option Kept
+kept b = cond b.enough (Some (record { degree = b.degree; value = b.value; span = b.span })) None
+
+kept-back : (r : Option Kept) → kept (budget_told r) ≡ r
+unfolding kept
+kept-back None = refl
+kept-back (Some b) = refl
+
+pub budget-told-once : {r s : Option Kept} → budget_told r ≡ budget_told s → r ≡ s
+budget-told-once {r} {s} e = sym (kept-back r) ∙ ap kept e ∙ kept-back s
 
 -- ---- a sound degree
 module _ (n : ℕ) (l : Line) (d : ℕ) (e : d ≡ sound_degree n l) where
@@ -77,19 +94,6 @@ module _ (limit : ℕ) (b : Budget) (l : Line) (d : ℕ) (e : d ≡ sound_degree
   unfolding spent_all
   spent-one c lines is = ap (λ (c : Budget). spent_all limit c lines) (is ∙ paid-is)
 
--- ---- once overspent, it stays so
-pub paid-stays : (limit k d : ℕ) (b c : Budget) (lines : List Line) → c ≡ paid_for k d b → c.enough ≡ false
-    → c ≡ spent_all limit c lines
-unfolding paid_for
-paid-stays limit k d b c lines e = rw e (go (1 ≤? d && k * factorial d ≤? b.value && S d ≤? b.span))
-  where
-    after : Bool → Budget
-    after t = cond t (left b.degree (b.value - k * factorial d) (b.span - S d)) overspent
-
-    go : (t : Bool) → (after t).enough ≡ false → after t ≡ spent_all limit (after t) lines
-    go true n = absurd (false≢true (sym n))
-    go false n = sym (overspent-stays limit lines)
-
 -- ---- paying, test by test
 module _ (d : ℕ) (b : Budget) where
   pub no_line : d ≡ 0 → overspent ≡ paid_for 1 d b
@@ -97,24 +101,24 @@ module _ (d : ℕ) (b : Budget) where
   no_line none = rw none
 
   module _ (some : d ≡ 0 → ⊥) (value : ℕ) (cost : value ≡ factorial d) where
-    is_some : 1 ≤? d ≡ true
-    is_some = le-leb 1 d (omega arith)
+    some-line : 1 ≤? d ≡ true
+    some-line = le-leb 1 d (omega arith)
 
     once : 1 * factorial d ≡ value
     once = omega (arith, cost)
 
-    pub too-dear : b.value < value → overspent ≡ paid_for 1 d b
+    pub too-dear : (value ≤ b.value → ⊥) → overspent ≡ paid_for 1 d b
     unfolding paid_for
-    too-dear short = rw (is_some, once, lt-leb value b.value short)
+    too-dear short = rw (some-line, once, lt-leb value b.value (omega (arith, short)))
 
     module _ (paid : value ≤ b.value) (span : ℕ) (steps : span ≡ S d) where
-      pub too_long : b.span < span → overspent ≡ paid_for 1 d b
+      pub too_long : (span ≤ b.span → ⊥) → overspent ≡ paid_for 1 d b
       unfolding paid_for
-      too_long short = rw (is_some, once, ← steps, le-leb value b.value paid, lt-leb span b.span short)
+      too_long short = rw (some-line, once, ← steps, le-leb value b.value paid, lt-leb span b.span (omega (arith, short)))
 
       pub all_paid : span ≤ b.span → left b.degree (b.value - value) (b.span - span) ≡ paid_for 1 d b
       unfolding paid_for
-      all_paid lasts = rw (is_some, once, ← steps, le-leb value b.value paid, le-leb span b.span lasts)
+      all_paid lasts = rw (some-line, once, ← steps, le-leb value b.value paid, le-leb span b.span lasts)
 
 -- ---- from line to line
 pub spent-next : (limit : ℕ) (b c : Budget) (xs : List ℕ) (i d : ℕ) → i < length xs
@@ -124,6 +128,13 @@ spent-next limit b c xs i d h e is =
     let l = line_of (get_or xs i 0) in
     let size : 1 ≡ nat_abs l.weight = sym (unit-weight (get_or xs i 0)) in
     rw (add-one i, drop-cons xs i 0 h) (spent-one limit b l d e c _ (is ∙ ap (λ k. paid_for k d b) size))
+
+-- once overspent, it stays so
+pub spent-stops : (limit : ℕ) (b : Budget) (xs : List ℕ) (i d : ℕ) → i < length xs
+    → d ≡ sound_degree (most_degree limit b) (line_of (get_or xs i 0)) → overspent ≡ paid_for 1 d b
+    → overspent ≡ spent_all limit b (map line_of (drop i xs))
+spent-stops limit b xs i d h e is =
+    sym (overspent-stays limit (map line_of (drop (i + 1) xs))) ∙ spent-next limit b overspent xs i d h e is
 
 pub spent-end : (limit : ℕ) (b : Budget) (xs : List ℕ) (i : ℕ) → length xs ≤ i
     → b ≡ spent_all limit b (map line_of (drop i xs))
@@ -148,7 +159,7 @@ module _ (limit : ℕ) (slip : Slip) where
 
     module _ (forward : non_neg slip.steps ≡ true) (n : ℕ) (is-asked : n ≡ asked slip) (settled : ℕ)
         (settled-size : settled ≡ nat_abs slip.settled) (value : ℕ) (cost : value ≡ factorial n) where
-      pub settled-dear : value < settled → overspent ≡ budget_of limit slip
+      pub settled-dear : (settled ≤ value → ⊥) → overspent ≡ budget_of limit slip
       unfolding budget_of
       settled-dear short = rw (
         words,
@@ -156,12 +167,12 @@ module _ (limit : ℕ) (slip : Slip) where
         ← settled-size,
         ← is-asked,
         ← cost,
-        lt-leb settled value short,
+        lt-leb settled value (omega (arith, short)),
       )
 
       module _ (paid : settled ≤ value) (steps : ℕ) (steps-size : steps ≡ nat_abs slip.steps) (span : ℕ)
           (most : span ≡ S n) where
-        pub steps-long : span < steps → overspent ≡ budget_of limit slip
+        pub steps-long : (steps ≤ span → ⊥) → overspent ≡ budget_of limit slip
         unfolding budget_of
         steps-long short = rw (
           words,
@@ -172,7 +183,7 @@ module _ (limit : ℕ) (slip : Slip) where
           ← cost,
           ← most,
           le-leb settled value paid,
-          lt-leb steps span short,
+          lt-leb steps span (omega (arith, short)),
         )
 
         pub first-left : steps ≤ span → left n (value - settled) (span - steps) ≡ budget_of limit slip

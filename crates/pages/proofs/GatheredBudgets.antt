@@ -246,11 +246,10 @@ module _ (limit : ℕ) (xs : List ℕ) (zs : List ℤ) (same : length xs ≡ len
           ∙ ap (λ e. every lasting lines && e) (sym (not-enough limit b lines t))
 
   -- as the code goes on
-  module _ (b c : Budget) (after : c ≡ spent_all limit b words) where
-    pub words-dear : c.enough ≡ false → false ≡ afforded limit b lines
-    words-dear short =
-        sym (ap (λ e. e && suffices_besides limit c.value xs zs) short) ∙ ap in_two after ∙ over-words b
+  module _ (b : Budget) where
+    pub words-dear : overspent ≡ spent_all limit b words → false ≡ afforded limit b lines
+    words-dear after = ap in_two after ∙ over-words b
 
-    pub then-besides : c.enough ≡ true → suffices_besides limit c.value xs zs ≡ afforded limit b lines
-    then-besides enough =
-        sym (ap (λ e. e && suffices_besides limit c.value xs zs) enough) ∙ ap in_two after ∙ over-words b
+    pub then-besides : (n value span : ℕ) → left n value span ≡ spent_all limit b words
+        → suffices_besides limit value xs zs ≡ afforded limit b lines
+    then-besides n value span after = ap in_two after ∙ over-words b

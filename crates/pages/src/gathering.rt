@@ -6,6 +6,7 @@ ghost use Rattle.theory.specs.Limits.{degree_limit, page_limit};
 ghost use Rattle.theory.specs.Refusals.{first_of};
 ghost use Rattle.words.specs.Answers.{refusal_of};
 ghost use Rattle.pages.specs.Mode.{alongside, gathered_mode};
+ghost use Rattle.pages.specs.Budget.{budget_told};
 ghost use Rattle.pages.specs.Sound.{sound_in, page_checks_in};
 ghost use Rattle.pages.specs.Private.Degrees.{AllKnown};
 ghost use Rattle.pages.specs.Private.Gathered.{word_cost, suffices_besides, afforded as isAfforded};
@@ -74,21 +75,20 @@ fn besides(
 // Whether no sign digit is set, no coefficient is 0 and a budget suffices for lines: it has to suffice for the words as
 // plain lines, and what these leave for what the coefficients ask for besides. There are places where there are many
 // lines.
-fn afforded(budget: Budget, lines: &[u64], coefficients: &[i64]) -> bool
+fn afforded(budget: Option<Budget>, lines: &[u64], coefficients: &[i64]) -> bool
     requires { length lines.now ≡ length coefficients.now }
-    ensures { result ≡ isAfforded degree_limit budget (alongside lines.now coefficients.now) }
+    ensures { result ≡ isAfforded degree_limit (budget_told budget) (alongside lines.now coefficients.now) }
 {
     let tables = Tables::new();
-    let after = soundness::spent(budget, lines, &tables);
-    if after.enough {
-        if lines.len() < MANY {
-            let mut shapes = [0u64; 0];
-            return besides(after.value, lines, coefficients, &tables, &mut shapes);
-        }
-        let mut shapes = [0u64; PLACES];
+    let Some(after) = soundness::spent(budget, lines, &tables) else {
+        return false;
+    };
+    if lines.len() < MANY {
+        let mut shapes = [0u64; 0];
         return besides(after.value, lines, coefficients, &tables, &mut shapes);
     }
-    false
+    let mut shapes = [0u64; PLACES];
+    besides(after.value, lines, coefficients, &tables, &mut shapes)
 }
 
 // Whether slip, page and coefficients are sound.

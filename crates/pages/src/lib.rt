@@ -40,10 +40,9 @@ pub const BLANK: Slip = Slip {
     mode: PLAIN,
 };
 
-// What is left of n! and S(n), n being the degree that a slip asks for; all zeros where one does not suffice.
-#[derive(Clone, Copy)]
+// What is left of n! and S(n), n being the degree that a slip asks for. Where one does not suffice there is none.
+#[derive(Clone, Copy, Debug, PartialEq, Eq)]
 pub struct Budget {
-    pub enough: bool,
     pub degree: u32,
     pub value: u64,
     pub span: u64,

@@ -1,8 +1,8 @@
 // Two budgets, n! and S(n), that fall as the settled sum, the steps and the lines take from them, and never a sum that
 // grows.
-ghost use Rattle.std.specs.Prelude.{◌≡◌};
+ghost use Rattle.std.specs.Prelude.{◌≡◌, Some};
 ghost use Rattle.theory.specs.Limits.{degree_limit};
-ghost use Rattle.pages.specs.Budget.{overspent as noBudget, budget_of};
+ghost use Rattle.pages.specs.Budget.{budget_told, budget_of};
 ghost use Rattle.pages.specs.Private.Degrees.{most_degree};
 
 use super::tables::Tables;
@@ -30,57 +30,31 @@ pub const SPANS: [u64; words::DEGREES] = [
     35951249665217,
 ];
 
-// A budget that does not suffice.
-pub fn overspent() -> Budget
-    ensures { result ≡ noBudget }
-{
-    Budget {
-        enough: false,
-        degree: 0,
-        value: 0,
-        span: 0,
-    }
-}
-
 // What n! leaves after the settled size and S(n) after the steps.
-pub fn first(slip: Slip, tables: &Tables) -> Budget
-    ensures { result ≡ budget_of degree_limit slip }
+pub fn first(slip: Slip, tables: &Tables) -> Option<Budget>
+    ensures { budget_told result ≡ budget_of degree_limit slip }
 {
     if SHAPE_WORDS <= slip.shape {
-        return overspent();
+        return None;
     }
-    let Ok(asked) = pairs::common_degree(slip.shape, slip.class) else {
-        return overspent();
-    };
+    let degree = pairs::common_degree(slip.shape, slip.class).ok()?.degree;
     if slip.steps < 0 {
-        return overspent();
+        return None;
     }
-    let degree = asked.degree;
     let settled = slip.settled.unsigned_abs();
-    let value = tables.factorial(degree);
-    if value < settled {
-        return overspent();
-    }
+    let value = tables.factorial(degree).checked_sub(settled)?;
     let steps = slip.steps.unsigned_abs();
-    let span = tables.span(degree);
-    if span < steps {
-        return overspent();
-    }
-    Budget {
-        enough: true,
+    let span = tables.span(degree).checked_sub(steps)?;
+    Some(Budget {
         degree,
-        value: value - settled,
-        span: span - steps,
-    }
+        value,
+        span,
+    })
 }
 
-// The greatest degree of a line that a budget can be spent on: 0, so none, where it does not suffice.
+// The greatest degree of a line that a budget can be spent on.
 pub fn most_degree(budget: Budget) -> u32
-    ensures { result ≡ most_degree degree_limit budget }
+    ensures { result ≡ most_degree degree_limit (budget_told (Some budget)) }
 {
-    if budget.enough {
-        budget.degree.min(words::LIMIT)
-    } else {
-        0
-    }
+    budget.degree.min(words::LIMIT)
 }

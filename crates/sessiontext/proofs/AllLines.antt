@@ -17,10 +17,9 @@ use Rattle.theory.specs.Refusals.{first_of}
 use Rattle.text.specs.Text.{Text}
 use Rattle.textreading.specs.Reading.{lines_of, first_line}
 use Rattle.textreading.proofs.Reading.Lines.{next}
-use Rattle.pages.specs.declared.Budget.{Budget}
 use Rattle.pages.specs.Page.{line_of, word_of}
 use Rattle.pages.specs.Page.Words.{line_read}
-use Rattle.pages.specs.Budget.{spent_all}
+use Rattle.pages.specs.Budget.{spent_all, Budget}
 use Rattle.sessiontext.specs.Reading.{is_waiting, line_in, line_faults}
 use Rattle.sessiontext.specs.Reading.Forms.{Waiting, is-waiting, waiting-is}
 use Rattle.sessiontext.specs.Reading.Exact.{line-written}

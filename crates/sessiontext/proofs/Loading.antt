@@ -20,9 +20,8 @@ use Rattle.text.specs.Text.{Text}
 use Rattle.textreading.specs.Reading.{lines_of}
 use Rattle.pages.specs.Mode.{plain_mode}
 use Rattle.pages.specs.Sound.{sound_with}
-use Rattle.pages.specs.declared.Budget.{Budget}
 use Rattle.pages.specs.Page.{word_of, blank, padded}
-use Rattle.pages.specs.Budget.{budget_of, spent_all}
+use Rattle.pages.specs.Budget.{budget_of, spent_all, Budget}
 use Rattle.pages.specs.Budget.Laws.{budget-sound}
 use Rattle.sessiontext.specs.Calls.{Loaded}
 use Rattle.sessiontext.specs.SessionText.{Form, plain_form}

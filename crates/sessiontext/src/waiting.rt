@@ -5,6 +5,7 @@ ghost use Rattle.theory.specs.Basics.{length, Each};
 ghost use Rattle.theory.specs.Limits.{degree_limit};
 ghost use Rattle.textreading.specs.Reading.{lines_of};
 ghost use Rattle.pages.specs.Page.{word_of};
+ghost use Rattle.pages.specs.Budget.{budget_told};
 ghost use Rattle.sessiontext.specs.Reading.{line_in};
 ghost use Rattle.sessiontext.specs.Reading.Forms.{Waiting};
 ghost use Rattle.sessiontext.specs.Private.Read.{ReadLine, ReadWaiting, ReadNext, ReadLines};
@@ -60,8 +61,8 @@ fn next(text: &[u8]) -> Option<(u64, &[u8])>
 // Judges the waiting lines that a text has behind six others: whether a budget suffices, or the first of them that is
 // not of its form, by its number in the text. Lines are taken off what is left of it, by no index: an iterator of lines
 // would be no plainer.
-pub fn judge(text: &[u8], budget: Budget) -> Result<bool, usize>
-    ensures { ReadLines (lines_of text.now) budget result }
+pub fn judge(text: &[u8], budget: Option<Budget>) -> Result<bool, usize>
+    ensures { ReadLines (lines_of text.now) (budget_told budget) result }
 {
     let mut rest = text;
     let mut number: usize = 7;
@@ -72,7 +73,7 @@ pub fn judge(text: &[u8], budget: Budget) -> Result<bool, usize>
         number += 1;
         rest = behind;
     }
-    Ok(left.enough)
+    Ok(left.is_some())
 }
 
 // Puts the waiting lines of a text, all of their form, at the front of a page that has room for them (taken off as

@@ -22,9 +22,8 @@ use Rattle.text.specs.Text.{Text, ascii}
 use Rattle.textreading.specs.Reading.{is_digit, number_in, integer_in, list_in, lines_of, first_line}
 use Rattle.sessiontext.specs.declared.partitions.ShapeAsked.{ShapeAsked}
 use Rattle.sessiontext.specs.declared.reading.FirstLines.{FirstLines}
-use Rattle.pages.specs.declared.Budget.{Budget}
 use Rattle.pages.specs.Page.{word_of}
-use Rattle.pages.specs.Budget.{spent_all}
+use Rattle.pages.specs.Budget.{spent_all, Budget}
 use Rattle.sessiontext.specs.SessionText.{held}
 use Rattle.sessiontext.specs.Reading.{in_limit, is_number, is_integer, is_list, shape_in, class_in}
 use Rattle.sessiontext.specs.Reading.{is_waiting, line_in, line_faults}

@@ -1,4 +1,5 @@
 use Rattle.std.proofs.lemmas.Result.{err_from_is_err_and}
+use Rattle.pages.proofs.Budgets.{enough-told}
 use Rattle.sessiontext.proofs.Told.{err-told, some-left, none-left}
 use Rattle.sessiontext.proofs.AllLines.{behind-line, judged-all, judged-fault, judged-next}
 use Rattle.sessiontext.proofs.waiting.judge.Goals as goal
@@ -22,4 +23,6 @@ loop-rest-preserved c =
     judged-next _ _ c.loop-rest.invariant (some-left _ c.loop-rest-test.ensures) read.0 read.1 read.2 c.spend-left.ensures
 
 pub returns : goal.returns
-returns c = judged-all _ _ c.loop-rest.invariant (none-left _ c.loop-rest-test.ensures)
+returns c =
+    let all = judged-all _ _ c.loop-rest.invariant (none-left _ c.loop-rest-test.ensures) in
+    (all.0, rw (c.is_some.ensures, enough-told c.loop-rest.left) all.1)

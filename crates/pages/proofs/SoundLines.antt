@@ -10,6 +10,7 @@ use Rattle.theory.specs.Refusals.Laws.{Within, WithinClass}
 use Rattle.pages.specs.Line.{Line, line_degree}
 use Rattle.pages.specs.Sound.{sound_line}
 use Rattle.pages.specs.Sound.Laws.{SoundLine, sound-line, line-sound}
+use Rattle.pages.specs.declared.degrees.Kind.TheVariants.{Shape, Class}
 use Rattle.pages.specs.Private.Degrees.{sound_degree, word_degree}
 use Rattle.pages.proofs.WordDegrees.{shape-degree-is, class-degree-is, shape-degree-some, class-degree-some}
 
@@ -28,8 +29,8 @@ module _ (n : ℕ) (l : Line) where
       go false e = refl
 
   -- the degrees of its two words
-  module _ (limit : ℕ) (small : n ≤ limit) (d e : ℕ) (of-shape : d ≡ word_degree limit false l.shape)
-      (of-class : e ≡ word_degree limit true l.class) where
+  module _ (limit : ℕ) (small : n ≤ limit) (d e : ℕ) (of-shape : d ≡ word_degree limit Shape l.shape)
+      (of-class : e ≡ word_degree limit Class l.class) where
     both-are : SoundLine n l → (d ≡ line_degree l) × (e ≡ line_degree l)
     both-are s =
         let shape : Within limit l.shape = record {

@@ -23,6 +23,8 @@ use Rattle.words.specs.Answers.{number_answer}
 use Rattle.words.specs.Answers.{NumberAnswer}
 use Rattle.words.specs.Answers.{ShapeReading}
 use Rattle.words.specs.Calls.{shape_reading, shape_degree, class_degree}
+use Rattle.pages.specs.declared.degrees.Kind.{Kind}
+use Rattle.pages.specs.declared.degrees.Kind.TheVariants.{Shape, Class}
 use Rattle.pages.specs.Private.Degrees.{word_degree, Known, Knows}
 use Rattle.pages.proofs.Signed.{carried, carried-is}
 
@@ -83,24 +85,24 @@ class-carried limit c room =
     let n : ℕ = nat_abs (class_degree limit c).number in
     ap carried (class-natural limit c) ∙ carried-is (pos n) (omega (arith, class-small limit c))
 
-pub word_small : (limit : ℕ) (b : Bool) (w : ℕ) → word_degree limit b w ≤ limit
+pub word_small : (limit : ℕ) (b : Kind) (w : ℕ) → word_degree limit b w ≤ limit
 unfolding word_degree
-word_small limit true w = class-small limit w
-word_small limit false w = go (good_shape w)
+word_small limit Class w = class-small limit w
+word_small limit Shape w = go (good_shape w)
   where
     go : (b : Bool) → cond b (shape_reading limit w).degree 0 ≤ limit
     go true = shape-small limit w
     go false = omega arith
 
-pub shape-degree-is : {limit s : ℕ} → Within limit s → word_degree limit false s ≡ degree (shape_of s)
+pub shape-degree-is : {limit s : ℕ} → Within limit s → word_degree limit Shape s ≡ degree (shape_of s)
 unfolding word_degree
 shape-degree-is {limit} {s} w = rw (shape-good w.good, shape-told limit s, shape-passes w)
 
-pub class-degree-is : {limit c : ℕ} → WithinClass limit c → word_degree limit true c ≡ degree (class_of c)
+pub class-degree-is : {limit c : ℕ} → WithinClass limit c → word_degree limit Class c ≡ degree (class_of c)
 unfolding word_degree
 class-degree-is {limit} {c} w = rw (class-told limit c, class-passes w)
 
-pub shape-degree-some : (limit s : ℕ) → (word_degree limit false s ≡ 0 → ⊥) → Within limit s
+pub shape-degree-some : (limit s : ℕ) → (word_degree limit Shape s ≡ 0 → ⊥) → Within limit s
 unfolding word_degree
 shape-degree-some limit s some = go (good_shape s) refl some
   where
@@ -110,7 +112,7 @@ shape-degree-some limit s some = go (good_shape s) refl some
         rw (good-kept s good) at (within limit s none)
     go false bad some = absurd (some refl)
 
-pub class-degree-some : (limit c : ℕ) → (word_degree limit true c ≡ 0 → ⊥) → WithinClass limit c
+pub class-degree-some : (limit c : ℕ) → (word_degree limit Class c ≡ 0 → ⊥) → WithinClass limit c
 unfolding word_degree
 class-degree-some limit c some =
     within-class limit c (not-refused (first_of (class_checks limit c)) _ (λ z. some (class-told limit c ∙ z)))
@@ -124,21 +126,21 @@ no-class : degree (class_of 0) ≡ 0
 unfolding digits
 no-class = refl
 
-zero_word : (limit : ℕ) (b : Bool) → word_degree limit b 0 ≡ 0
+zero_word : (limit : ℕ) (b : Kind) → word_degree limit b 0 ≡ 0
 unfolding word_degree
-zero_word limit true =
+zero_word limit Class =
     let k : ℕ = first_of (class_checks limit 0) in
     class-told limit 0 ∙ ap (unless k) no-class ∙ of-nothing k
-zero_word limit false =
+zero_word limit Shape =
     let k : ℕ = first_of (shape_checks limit 0) in
     shape-told limit 0 ∙ ap (unless k) no-shape ∙ of-nothing k
 
-zeros-known : (limit : ℕ) (b : Bool) (n : ℕ) → Each (Known (word_degree limit b)) (replicate n 0)
+zeros-known : (limit : ℕ) (b : Kind) (n : ℕ) → Each (Known (word_degree limit b)) (replicate n 0)
 zeros-known limit b zero = tt
 zeros-known limit b (suc n) = (zero_word limit b, zeros-known limit b n)
 
 pub nothing_known : (n : ℕ) → Knows (replicate n 0) (replicate n 0)
-nothing_known n = record { of-shapes = zeros-known degree_limit false n; of-classes = zeros-known degree_limit true n }
+nothing_known n = record { of-shapes = zeros-known degree_limit Shape n; of-classes = zeros-known degree_limit Class n }
 
 each_set : {A : Type 0} (P : A → Type 0) (xs : List A) (i : ℕ) (x : A) → Each P xs → P x → Each P (set xs i x)
 each_set P [] i x e p = tt

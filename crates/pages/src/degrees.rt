@@ -13,33 +13,42 @@ pub const PLACES: usize = 229;
 // As many lines as make it worth while to remember their words.
 pub const MANY: usize = 64;
 
-// The degree of a good word within the limit, of a class or of a shape, and 0 of any other word.
-fn read(class: bool, word: u32) -> u32
-    ensures { result ≡ word_degree degree_limit class word }
+// What a word is read as.
+#[derive(Clone, Copy)]
+pub enum Kind {
+    Shape,
+    Class,
+}
+
+// The degree of a good word within the limit, of a shape or of a class, and 0 of any other word.
+fn read(kind: Kind, word: u32) -> u32
+    ensures { result ≡ word_degree degree_limit kind word }
 {
-    if class {
-        return words::classes::degree(word).unwrap_or(0);
+    match kind {
+        Kind::Class => words::classes::degree(word).unwrap_or(0),
+        Kind::Shape => {
+            if SHAPE_WORDS <= word {
+                return 0;
+            }
+            words::shapes::degree(word).unwrap_or(0)
+        }
     }
-    if SHAPE_WORDS <= word {
-        return 0;
-    }
-    words::shapes::degree(word).unwrap_or(0)
 }
 
 // The same, read only where it is not known: what is found of a word is written to its place, where places are lent.
-pub fn word_degree(class: bool, word: u32, known: &mut [u64]) -> u32
-    requires { AllKnown class known.old }
-    ensures { (result ≡ word_degree degree_limit class word) × AllKnown class known.new }
+pub fn word_degree(kind: Kind, word: u32, known: &mut [u64]) -> u32
+    requires { AllKnown kind known.old }
+    ensures { (result ≡ word_degree degree_limit kind word) × AllKnown kind known.new }
 {
     if known.len() < PLACES {
-        return read(class, word);
+        return read(kind, word);
     }
     let place = word as usize % PLACES;
     let found = known[place];
     if found / 32 == word as u64 {
         return (found % 32) as u32;
     }
-    let degree = read(class, word);
+    let degree = read(kind, word);
     known[place] = word as u64 * 32 + degree as u64;
     degree
 }
@@ -49,8 +58,8 @@ pub fn degree(line: u64, n: u32, shapes: &mut [u64], classes: &mut [u64]) -> u32
     requires { (n ≤ degree_limit) × Knows shapes.old classes.old }
     ensures { (result ≡ sound_degree n (line_of line)) × Knows shapes.new classes.new }
 {
-    let degree = word_degree(false, linewords::shape(line), shapes);
-    let other = word_degree(true, linewords::class(line), classes);
+    let degree = word_degree(Kind::Shape, linewords::shape(line), shapes);
+    let other = word_degree(Kind::Class, linewords::class(line), classes);
     if n < degree {
         return 0;
     }

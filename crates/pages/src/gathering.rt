@@ -1,17 +1,18 @@
 // Whether slip, page and coefficients are sound (document 02, P7, "Sound then counts each d! as often as the
 // coefficient's size"): the gathered mode.
 ghost use Rattle.std.specs.Prelude.{◌≡◌, ◌*◌, ◌^◌, ◌≤◌, ◌<◌};
-ghost use Rattle.theory.specs.Basics.{false, length, ◌≤?◌};
+ghost use Rattle.theory.specs.Basics.{length, ◌≤?◌};
 ghost use Rattle.theory.specs.Limits.{degree_limit, page_limit};
 ghost use Rattle.theory.specs.Refusals.{first_of};
 ghost use Rattle.words.specs.Answers.{refusal_of};
+ghost use Rattle.pages.specs.declared.degrees.Kind.TheVariants.{Shape};
 ghost use Rattle.pages.specs.Mode.{alongside, gathered_mode};
 ghost use Rattle.pages.specs.Budget.{budget_told};
 ghost use Rattle.pages.specs.Sound.{sound_in, page_checks_in};
 ghost use Rattle.pages.specs.Private.Degrees.{AllKnown};
 ghost use Rattle.pages.specs.Private.Gathered.{word_cost, suffices_besides, afforded as isAfforded};
 
-use super::degrees::{MANY, PLACES};
+use super::degrees::{Kind, MANY, PLACES};
 use super::tables::Tables;
 use super::{Budget, GATHERED, PAGE_LIMIT, Slip, degrees, differences, soundness};
 use words::Refusal;
@@ -33,10 +34,10 @@ fn affords(value: u64, times: u64, cost: u64) -> bool
 
 // d! of a line, d being the degree of its shape word, which is read once where places are lent.
 fn cost(line: u64, tables: &Tables, shapes: &mut [u64]) -> u64
-    requires { AllKnown false shapes.old }
-    ensures { (result ≡ word_cost degree_limit line) × AllKnown false shapes.new }
+    requires { AllKnown Shape shapes.old }
+    ensures { (result ≡ word_cost degree_limit line) × AllKnown Shape shapes.new }
 {
-    tables.factorial(degrees::word_degree(false, linewords::shape(line), shapes))
+    tables.factorial(degrees::word_degree(Kind::Shape, linewords::shape(line), shapes))
 }
 
 // Whether no sign digit is set, no coefficient is 0 and a value suffices for what the coefficients ask for besides each
@@ -48,7 +49,7 @@ fn besides(
     tables: &Tables,
     shapes: &mut [u64],
 ) -> bool
-    requires { (length lines.now ≡ length coefficients.now) × AllKnown false shapes.old }
+    requires { (length lines.now ≡ length coefficients.now) × AllKnown Shape shapes.old }
     ensures { result ≡ suffices_besides degree_limit value lines.now coefficients.now }
 {
     let mut left = value;

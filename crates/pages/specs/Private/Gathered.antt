@@ -5,9 +5,10 @@
 --   suffices_besides limit value xs zs  no word has its sign digit set, no coefficient is 0, and the value suffices for
 --                                      what the coefficients ask for besides, line after line
 use Rattle.std.specs.Prelude.{◌&&◌, ◌∷◌, ◌-◌, ◌*◌, ◌^◌}
-use Rattle.theory.specs.Basics.{Bool, true, false, not, List, [], ℕ, ℤ, nat_abs, ◌=?◌, ◌≤?◌}
+use Rattle.theory.specs.Basics.{Bool, true, not, List, [], ℕ, ℤ, nat_abs, ◌=?◌, ◌≤?◌}
 use Rattle.theory.specs.Basics.{◌<?◌, every}
 use Rattle.theory.specs.Bounds.{factorial}
+use Rattle.pages.specs.declared.degrees.Kind.TheVariants.{Shape}
 use Rattle.pages.specs.Line.{Line}
 use Rattle.pages.specs.Page.{line_of}
 use Rattle.pages.specs.Gathering.{lasting}
@@ -18,7 +19,7 @@ abbrev pub afforded : ℕ → Budget → List Line → Bool
 afforded limit b lines = every lasting lines && (spent_all limit b lines).enough
 
 abbrev pub word_cost : ℕ → ℕ → ℕ
-word_cost limit x = factorial (word_degree limit false (line_of x).shape)
+word_cost limit x = factorial (word_degree limit Shape (line_of x).shape)
 
 abbrev pub more_cost : ℕ → ℕ → ℤ → ℕ
 more_cost limit x z = (nat_abs z - 1) * word_cost limit x

@@ -12,22 +12,22 @@ use Rattle.pages.specs.Private.Degrees.{word_degree}
 use Rattle.pages.proofs.WordDegrees.{shape-degree-told}
 use Rattle.pages.proofs.degrees.read.Goals as goal
 
-pub returns-then-class : goal.returns-then-class
+pub returns-in-Class : goal.returns-in-Class
 unfolding word_degree
-returns-then-class c =
-    rw c.if-class.true
+returns-in-Class c =
+    rw c.in-Class.is
     (c.unwrap_or.ensures ∙ sym (degree-or_0 c.degree.result) ∙ ap (λ (a : NumberAnswer). nat_abs a.number) c.degree.ensures)
 
 pub returns-then-word-ge-SHAPE_WORDS : goal.returns-then-word-ge-SHAPE_WORDS
 unfolding word_degree
 returns-then-word-ge-SHAPE_WORDS c =
     let w : ℕ = c.args.word in
-    rw (c.if-class.false, le-ltb w (2 ^ shape_width) (omega (arith, c.if-word-ge-SHAPE_WORDS.true)))
+    rw (c.in-Shape.is, le-ltb w (2 ^ shape_width) (omega (arith, c.if-word-ge-SHAPE_WORDS.true)))
 
-pub returns : goal.returns
+pub returns-else-word-ge-SHAPE_WORDS : goal.returns-else-word-ge-SHAPE_WORDS
 unfolding word_degree
-returns c =
+returns-else-word-ge-SHAPE_WORDS c =
     let w : ℕ = c.args.word in
-    rw (c.if-class.false, lt-ltb w (2 ^ shape_width) (omega (arith, c.if-word-ge-SHAPE_WORDS.false)))
-    (c.unwrap_or-2.ensures ∙ sym (degree-or_0 c.degree-2.result)
-    ∙ ap (λ (a : NumberAnswer). nat_abs a.number) c.degree-2.ensures ∙ shape-degree-told degree_limit w)
+    rw (c.in-Shape.is, lt-ltb w (2 ^ shape_width) (omega (arith, c.if-word-ge-SHAPE_WORDS.false)))
+    (c.unwrap_or-in-Shape.ensures ∙ sym (degree-or_0 c.degree-in-Shape.result)
+    ∙ ap (λ (a : NumberAnswer). nat_abs a.number) c.degree-in-Shape.ensures ∙ shape-degree-told degree_limit w)

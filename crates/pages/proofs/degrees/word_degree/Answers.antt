@@ -7,9 +7,9 @@ use Rattle.pages.proofs.degrees.word_degree.Goals as goal
 
 pub returns : goal.returns
 returns c =
-    let small = word_small degree_limit c.args.class c.args.word in (
+    let small = word_small degree_limit c.args.kind c.args.word in (
       c.read-degree.ensures,
-      one-more-known (word_degree degree_limit c.args.class) c.args.known.now (c.args.word % 229) c.args.word c.read-degree.result
+      one-more-known (word_degree degree_limit c.args.kind) c.args.known.now (c.args.word % 229) c.args.word c.read-degree.result
           c.requires
           c.read-degree.ensures (omega (arith, small, c.read-degree.ensures)),
     )

@@ -7,11 +7,11 @@ use mir.Facts.{to_z-of_z}
 use mir.Syntax.{w64}
 use mir.Val.{SFits}
 use borrow.Author.Rules.{rules}
-use Rattle.theory.specs.Basics.{false}
 use Rattle.theory.specs.Limits.{degree_limit}
 use Rattle.theory.specs.Bounds.{factorial}
 use Rattle.theory.proofs.Bounds.Laws.{factorial-positive, factorial-rises}
 use Rattle.pages.specs.Page.{line_of}
+use Rattle.pages.specs.declared.degrees.Kind.TheVariants.{Shape}
 use Rattle.pages.specs.Private.Degrees.{word_degree}
 use Rattle.pages.specs.Private.Gathered.{word_cost, more_cost}
 use Rattle.pages.proofs.WordDegrees.{word_small}
@@ -21,9 +21,9 @@ use Rattle.pages.proofs.gathering.besides.Goals as goal
 -- the factorials within the limit have 45 digits at most
 cost-room : (x k : ℕ) → k ≡ word_cost degree_limit x → (1 ≤ k) × (k < 2 ^ 45)
 cost-room x k is =
-    let d = word_degree degree_limit false (line_of x).shape in
+    let d = word_degree degree_limit Shape (line_of x).shape in
     let most : factorial 16 ≡ 20922789888000 = unfold factorial in refl in
-    let small = factorial-rises d 16 (word_small degree_limit false (line_of x).shape) in
+    let small = factorial-rises d 16 (word_small degree_limit Shape (line_of x).shape) in
     (omega (arith, is, factorial-positive d), omega (arith, is, small, most))
 
 pub loop-line-init : goal.loop-line-init

@@ -162,6 +162,13 @@ def reasoned(cell):
     return bool(m) and len(m[1].split()) >= 2
 
 
+def of_all_types(statement, alias):
+    """Whether the types and traits in front of a contract's arguments, if there are any, are the theorem's own."""
+    front = re.search(r' %s\.Post ((?:\S+ )*?)κs a r s ' % re.escape(alias), statement)[1].split()
+    own = {name for names in re.findall(r'\(([^():]*) : ', statement) for name in names.split()}
+    return own.issuperset(front)
+
+
 def wrong_theorem(function, crate, cell):
     """Each theorem of a cell is about the function: of a generic one, the first of all types and then of some."""
     names = re.findall(r'`([^`]+)`', cell)
@@ -185,9 +192,11 @@ def wrong_theorem(function, crate, cell):
         # of a generic function, its types and traits stand in front
         of, other = (r' %s\.Post (?:\S+ )*?κs a %s ' % (re.escape(alias[0]), outcome) for outcome in ('r s', "r' s'"))
         said = statement.rpartition('→')[2]
-        same = re.search(r"(?:^|\(| )((?:\w+ )?)r ≡ \1r'", said)
+        same = re.match(r" ?\(?r ≡ r'", said)
         if not re.search(of, statement) or not re.search(other, statement) or not same:
             yield '%s does not say that two outcomes are one' % name
+        elif name == names[0] and not of_all_types(statement, alias[0]):
+            yield '%s is of some types alone' % name
         if len(re.findall(r"\bs\.[\d.]+\.now ≡ s'\.[\d.]+\.now\b", said)) != tree.functions()[function].lent:
             yield '%s does not say so of each lent run' % name
 
@@ -205,27 +214,20 @@ def wrong_edits(crate, cell):
         yield '%d edits, two wanted' % len(names)
 
 
-def of_trait(function):
-    """Whether this is a method of a public trait of its crate, on one of its types."""
-    if function not in tree.functions():
-        return False
-    crate, owner = function.split('::')[0], function.split('::')[-2]
-    traits = re.findall(r'^pub trait (\w+)', tree.read('crates/%s/src/lib.rt' % crate), re.M)
-    return any(owner.endswith(trait) and owner != trait for trait in traits)
-
-
 def wrong_promises(text):
     rows = rows_of(text)
     found = [function for function, _, _ in rows]
     public = {function.path: function for function in tree.public_functions()}
-    for path, function in public.items():
+    methods = {function.path for function in tree.methods()}
+    for path in [*public, *methods]:
         if found.count(path) != 1:
             yield '%s has %d rows' % (path, found.count(path))
+    for path, function in public.items():
         if not function.promise or function.asks:
             yield '%s has no ensures, or a requires' % path
     for function, theorem, edits in rows:
         crate = function.split('::')[0]
-        if function not in public and not of_trait(function):
+        if function not in public and function not in methods:
             yield '%s is no public function' % function
             continue
         for why in [*wrong_theorem(function, crate, theorem), *wrong_edits(crate, edits)]:
@@ -340,6 +342,8 @@ CHANGES = [
     (PROMISES, r'`([a-z-]+)-once`', r'`\1-onec`', 'has no theorem'),
     (PROMISES, r'`shape-word-once`', '`class-word-once`', 'is not about this function'),
     (PROMISES, r'`shape-word-once`', 'proved', 'names no theorem'),
+    (PROMISES, r'`cleared-once`, and of words and of coefficients ', '', 'is of some types alone'),
+    (PROMISES, r'^\| `text::numbers::U64Written::write`.*\n', '', 'U64Written::write has 0 rows'),
     (PROMISES, r'^(\| `words::.*? \| .*? \| `)(\w+)`', r'\1not_\2`', 'words has no edit not_'),
     (PROMISES, r'^(\| `words::.*? \| .*? \| `\w+`).*', r'\1 |', '1 edits, two wanted'),
     (PROMISES, r'^(\| `listing::.*? \| .*? \| `)\w+`', r'\1list_last_rise`', 'listing has no edit list_last_rise'),

@@ -1,8 +1,8 @@
 /* stack.c: the stack that calls take. Each is made on a stack that is painted before it; what has lost its paint was
  * written to. What a call of nothing takes is left out, and room that is set aside and not written to is not seen.
- * Every shape is asked for on every class of degrees 0 to 16; a column of degree 16; and the calls on a gathered
- * session of more lines than are few to the library, so that its large arrays are used. Prints a line for each kind,
- * 'ok ..' or 'FAILED ..', with what was seen. */
+ * Every shape is asked for on every class of degrees 0 to 16; a column of degree 16; the calls on a gathered session of
+ * more lines than are few to the library, so that its large arrays are used; and a load that does not come to them.
+ * Prints a line for each kind, 'ok ..' or 'FAILED ..', with what was seen. */
 #define _GNU_SOURCE
 
 #include <inttypes.h>
@@ -15,6 +15,7 @@
 #include "../window/zembrusha.h"
 
 enum { CHARACTER_LIMIT = 560, COLUMN_LIMIT = 14 * 1024, GATHERED_LIMIT = 20 * 1024, LOAD_LIMIT = 88 * 1024 };
+enum { NO_LOAD_LIMIT = 2 * 1024 };
 enum { SHORT = 16 * 1024, STACK = 128 * 1024, PAINT = 0xA5 };
 enum { DEGREES = 17, MOST = 231, SMALL = 6, LINES = 121, CYCLE = 6 };
 
@@ -132,6 +133,13 @@ static void load(void)
     refused = zembrusha_gathered_load(text, length, page, LINES, coefficients, LINES).refused;
 }
 
+/* A load of a text whose last line lacks its newline, which is not judged: it needs none of the room for lines. */
+static void no_load(void)
+{
+    refused = zembrusha_gathered_load(text, length - 1, page, LINES, coefficients, LINES).refused;
+    refused = refused == ZEMBRUSHA_BAD_TEXT ? 0 : ZEMBRUSHA_BAD_TEXT;
+}
+
 static void commit(void)
 {
     refused = zembrusha_gathered_commit(
@@ -197,6 +205,7 @@ int main(void)
     fill();
     deepest_of("a call on a gathered session", (void (*const[])(void)){watch, preview, save}, 3, idle, GATHERED_LIMIT);
     deepest_of("a gathered load", (void (*const[])(void)){load}, 1, idle, LOAD_LIMIT);
+    deepest_of("a gathered load that is refused 16", (void (*const[])(void)){no_load}, 1, idle, NO_LOAD_LIMIT);
     deepest_of("a gathered commit", (void (*const[])(void)){commit}, 1, idle, GATHERED_LIMIT);
     return failed ? EXIT_FAILURE : EXIT_SUCCESS;
 }

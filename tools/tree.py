@@ -61,6 +61,7 @@ class Function:
     asks: bool
     lent: int  # how many runs it may write
     file: str
+    method: bool  # of a trait of its crate, or of the library on a public type of its module: others can call it, too
 
 
 FUNCTION = re.compile(r'^(?P<in>[ \t]*)(?P<pub>pub )?(?P<extern>extern "C" )?fn (?P<name>\w+)', re.M)
@@ -80,26 +81,40 @@ def promises(contract):
         yield contract[m.end():at - 1]
 
 
-IMPL = r'^impl(?:<[^>]*>)? (\w+)(?:<.*>)?(?: for (\S+))? \{'
+IMPL = r'^impl(?:<[^>]*>)? (\w+)(?:<(.*)>)?(?: for (\S+))? \{'
 
 
-def owner(name, given):
-    """What Rattle calls a block: a type, or of a trait the type and the trait, as `U64Written`."""
+def owner(name, of, given):
+    """What Rattle calls a block: a type, or of a trait the type and the trait, as `U64Written`, with the words of what
+    the trait is of, as `RefusedFromRefusal`."""
     if given is None:
         return name
     given = 'RefSlice' if given.startswith('&[') else re.sub(r'.*::|<.*', '', given)
-    return given[0].upper() + given[1:] + name
+    return given[0].upper() + given[1:] + name + ''.join(re.findall(r'\w+', of or ''))
+
+
+def of_others(name, given, text, root, reached):
+    """Whether others can call the methods of a block: those of a trait of its crate, wherever the block stands, or of
+    another trait on a type that is public in its module."""
+    if given is None:
+        return False
+    own = re.findall(r'^pub trait (\w+)', read(root), re.M)
+    types = re.findall(r'^pub (?:struct|enum) (\w+)', text, re.M)
+    return name in own or reached and given.split('<')[0] in types
 
 
 def functions_in(path, file, reached):
     """The functions of a file and of the modules that it names. `reached`: `pub mod` lines lead here."""
     text = without_comments(read(file))
-    owners = [(m.start(), owner(m[1], m[2])) for m in re.finditer(IMPL, text, re.M)]
+    root = 'crates/%s/src/lib.rt' % path[0]
+    owners = [(m.start(), owner(m[1], m[2], m[3]), os.path.exists(root) and of_others(m[1], m[3], text, root, reached))
+              for m in re.finditer(IMPL, text, re.M)]
     for m in FUNCTION.finditer(text):
         rest = text[m.end():]
-        body = re.search(r'\n[ \t]*\{[ \t]*\n', rest)
+        body = re.search(r'(?:\n[ \t]*| )\{[ \t]*\n', rest)
         contract = rest[:body.start()] if body else rest.split('\n}')[0]
-        inside = [name for start, name in owners if start < m.start()] if m['in'] else []
+        inside = [name for start, name, _ in owners if start < m.start()] if m['in'] else []
+        method = [others for start, _, others in owners if start < m.start()] if m['in'] else []
         yield Function(
             path='::'.join(path + inside[-1:] + [m['name']]),
             public=bool(m['pub']) and (reached or bool(m['extern'])),
@@ -107,6 +122,7 @@ def functions_in(path, file, reached):
             asks='requires' in contract,
             lent=len(re.findall(r'&mut \[', contract)),
             file=file,
+            method=bool(method) and method[-1],
         )
     for m in re.finditer(r'^(pub )?mod (\w+);', text, re.M):
         folder = os.path.dirname(file) if os.path.basename(file) in ('lib.rt', 'main.rt') else file[:-len('.rt')]
@@ -130,6 +146,11 @@ def functions():
 
 def public_functions():
     return [function for function in functions().values() if function.public]
+
+
+def methods():
+    """The methods of traits that others can call."""
+    return [function for function in functions().values() if function.method]
 
 
 # ---- definitions and theorems

@@ -7,6 +7,7 @@ use Prim.Native.Nat.{◌≤◌, ◌<◌}
 use native.Mathlib.Decide.{ℕ_discrete}
 use native.Mathlib.Omega.{arith}
 use lib.Count.{count_trailing_zeros}
+use lib.Pow.{pow_mono}
 use borrow.Author.Tests.{eq-eqb, ne_eqb, eqb-true}
 use Rattle.theory.specs.Basics.{true, ℕ, ◌=?◌, replicate}
 use Rattle.theory.specs.Partition.{Parts, degree}
@@ -26,6 +27,7 @@ use Rattle.characters.proofs.Walks.{shape-within, character-carried}
 
 pub record OnesTold (w z one : ℕ) : Type 0 where
   pub bits : z < 32
+  pub fits : w + one < 2 ^ 32
   pub tells : (w + one =? 2 ^ 31) ≡ (w =? class_word (replicate (degree (class_of w)) 1))
 
 pub ones-told : (w : ℕ) → 0 < degree (class_of w) → w < 2 ^ width
@@ -37,9 +39,11 @@ ones-told w some below =
     let place : width - n ≡ z = omega arith in
     let ones = rw place at (ones-word n (omega arith)) in
     let short : z ≤ 31 = omega arith in
+    let low : 2 ^ z ≤ 2 ^ 31 = pow_mono short in
     rw (one_shifted 32 z (omega arith))
     (record {
       bits = omega arith;
+      fits = omega arith;
       tells = elim (ℕ_discrete w (class_word (replicate n 1))) [
         | yes e ↦ eq-eqb (w + 2 ^ z) (2 ^ 31) (omega (arith, e)) ∙ sym (eq-eqb w (class_word (replicate n 1)) e)
         | no g ↦ ne_eqb (w + 2 ^ z) (2 ^ 31) (λ h. g (omega (arith, h))) ∙ sym (ne_eqb w (class_word (replicate n 1)) g)

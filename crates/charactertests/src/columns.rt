@@ -26,7 +26,7 @@ fn short_stays(class: u32, degree: Degree) -> bool {
     let room = degree.count as usize - 1;
     let short = &mut values[..room];
     let column = classcolumns::column(class, short);
-    (column == Err(Refusal::ColumnTooShort)) & marked(short)
+    (column.map_err(Refusal::number) == Err(14)) & marked(short)
 }
 
 impl Columns {

@@ -8,12 +8,14 @@ use testing::numbers::{natural, sum};
 // Columns of a degree, each with room for the entries of the greatest degree.
 type Table = [[i64; listing::MOST_PARTITIONS]; listing::MOST_PARTITIONS];
 
-// The columns of all classes of a degree.
+// The columns of all classes of a degree; zeros from a rank on that is refused.
 fn columns(degree: Degree) -> Table {
     let mut table = [[0i64; listing::MOST_PARTITIONS]; listing::MOST_PARTITIONS];
     for (rank, column) in (0..degree.count).zip(&mut table) {
-        let class = listing::class_at(degree.n, rank);
-        let _ = classcolumns::column(class.unwrap_or(0), column);
+        let Ok(class) = listing::class_at(degree.n, rank) else {
+            break;
+        };
+        let _ = classcolumns::column(class, column);
     }
     table
 }

@@ -12,10 +12,10 @@ pub struct Ranks {
 }
 
 // Whether a rank is refused so, as a shape and as a class.
-fn refused(degree: u32, rank: u32, refusal: Refusal) -> bool {
-    let shape = listing::shape_at(degree, rank);
-    let class = listing::class_at(degree, rank);
-    (shape == Err(refusal)) & (class == Err(refusal))
+fn refused(degree: u32, rank: u32, number: u8) -> bool {
+    let shape = listing::shape_at(degree, rank).map_err(Refusal::number);
+    let class = listing::class_at(degree, rank).map_err(Refusal::number);
+    (shape == Err(number)) & (class == Err(number))
 }
 
 impl Ranks {
@@ -27,7 +27,7 @@ impl Ranks {
             self.classes = self.classes.add(of_class == Ok(i64::from(rank)));
         }
         for rank in [degree.count, 0xFFFF_FFFF] {
-            self.past = self.past.add(refused(degree.n, rank, Refusal::NoSuchRank));
+            self.past = self.past.add(refused(degree.n, rank, 11));
         }
     }
 
@@ -42,7 +42,7 @@ impl Ranks {
 pub fn above() -> Tally {
     let mut t = Tally::new();
     for (degree, rank) in [(17, 0), (17, 0xFFFF_FFFF), (0xFFFF_FFFF, 0)] {
-        t = t.add(refused(degree, rank, Refusal::DegreeTooLarge));
+        t = t.add(refused(degree, rank, 12));
     }
     t
 }

@@ -25,7 +25,7 @@ pub fn column(class: u32, values: &mut [i64]) -> Result<usize, Refusal>
         return Err(Refusal::ColumnTooShort);
     }
     let mut parts = [0u8; words::LIMIT as usize];
-    let cycles = words::classes::parts(class, &mut parts).unwrap();
+    let cycles = words::classes::parts(class, &mut parts).unwrap_or(0);
     filling::write(&parts[..cycles], degree, values);
     Ok(count)
 }

@@ -5,6 +5,8 @@ use Rattle.std.proofs.Common.{sym, ◌∙◌}
 use denote.Builtin.{u64, i64}
 use Rattle.clearing.specs.contracts.words.U64Zero.TheImpl as words
 use Rattle.clearing.specs.contracts.coefficients.I64Zero.TheImpl as coefficients
+use Rattle.clearing.proofs.words.U64Zero.is_zero.Reads as word-zero
+use Rattle.clearing.proofs.coefficients.I64Zero.is_zero.Reads as coefficient-zero
 use Rattle.clearing.proofs.clear.Reads as clear
 use Rattle.clearing.proofs.is_clear.Reads as is-clear
 
@@ -34,3 +36,12 @@ pub coefficients-idle-once : (L C D K E : _) (κs : _) (a : _) (r r' : _) (s s' 
     → is-clear.Post i64 L C coefficients.ghosts D K E κs a r s
     → is-clear.Post i64 L C coefficients.ghosts D K E κs a r' s' → r ≡ r'
 coefficients-idle-once L C = clear-once i64 L C coefficients.ghosts
+
+-- ---- whether a number is 0
+pub word-zero-once : (κs : _) (a : _) (r r' : _) (s s' : _) → word-zero.Post κs a r s → word-zero.Post κs a r' s'
+    → r ≡ r'
+word-zero-once κs a r r' s s' p q = p ∙ sym q
+
+pub coefficient-zero-once : (κs : _) (a : _) (r r' : _) (s s' : _) → coefficient-zero.Post κs a r s
+    → coefficient-zero.Post κs a r' s' → r ≡ r'
+coefficient-zero-once κs a r r' s s' p q = p ∙ sym q

@@ -38,11 +38,26 @@ pub fn clear<T: Zero>(lent: &mut [T], from: usize)
     }
 }
 
-// Whether all is 0 (document 01, "every word after the lines is 0"; document 02, P7, of coefficients). It is read to its
-// end, which lets several be compared at once: `all`, which stops at the first that isn't 0, takes three times as long
-// on a whole page of zeros.
+// As many numbers as are read in one go.
+const BLOCK: usize = 64;
+
+// Whether a block is all 0. It is read to its end, which lets several be compared at once: `all`, which stops at the
+// first that isn't 0, takes three times as long on a whole page of zeros.
+fn block_is_clear<T: Zero>(block: &[T]) -> bool
+    ensures { result ≡ every T.is_zero block.now }
+{
+    block.iter().fold(true, |clear, x| clear & x.is_zero())
+}
+
+// Whether all is 0 (document 01, "every word after the lines is 0"; document 02, P7, of coefficients). No more is read
+// than the first block that isn't.
 pub fn is_clear<T: Zero>(lent: &[T]) -> bool
     ensures { result ≡ every T.is_zero lent.now }
 {
-    lent.iter().fold(true, |clear, x| clear & x.is_zero())
+    for block in lent.chunks(BLOCK) {
+        if !block_is_clear(block) {
+            return false;
+        }
+    }
+    true
 }

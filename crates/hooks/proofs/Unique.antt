@@ -44,5 +44,5 @@ first-once hooks left left' None (Some y) p q = (cc, cc)
 first-once hooks left left' (Some x) None p q = (cc, cc)
 first-once hooks left left' (Some x) (Some y) p q = (ap Some (same-hook x y cc), cc)
 
-hooks-next-once : (κs : _) (a : _) (r r' : _) (s s' : _) → next.Post κs a r s → next.Post κs a r' s' → r ≡ r'
+pub hooks-next-once : (κs : _) (a : _) (r r' : _) (s s' : _) → next.Post κs a r s → next.Post κs a r' s' → r ≡ r'
 hooks-next-once κs a r r' s s' p q = (first-once _ _ _ r r' p.0 q.0).0

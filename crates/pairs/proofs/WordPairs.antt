@@ -78,15 +78,13 @@ module _ {limit s c : ℕ} {a : Result Shape Refusal} {b : Result ℕ Refusal} (
   refused-3 not-1 is-3 = rw (order, ne_eqb _ 1 not-1, is-3)
 
   module _ (not-1 : refusal_of a ≡ 1 → ⊥) (not-3 : refusal_of b ≡ 3 → ⊥) where
-    pub refused-shape : {e : Refusal} → a ≡ Err e → Answers (number_of e) 0 0
+    pub refused-2 : (refusal_of a ≡ 0 → ⊥) → Answers 2 0 0
     unfolding degree_of_both
-    refused-shape {e} was =
-        let is : number_of e ≡ refusal_of a = sym (ap refusal_of was) in
-        let some : refusal_of a ≡ 0 → ⊥ = λ z. refuses e (is ∙ z) in
+    refused-2 some =
         let two : refusal_of a ≡ 2 =
         by-shape
         ∙ other_number (no-1 s).0 (no-2 limit (shape_of s)).0 (λ z. not-1 (by-shape ∙ z)) (λ z. some (by-shape ∙ z)) in
-        rw (is, order, ne_eqb _ 1 not-1, ne_eqb _ 3 not-3, ne_eqb _ 0 some, two)
+        rw (order, two, ne_eqb _ 3 not-3)
 
     module _ {x : Shape} (passes : a ≡ Ok x) where
       pub refused-class : {e : Refusal} → b ≡ Err e → Answers (number_of e) 0 0

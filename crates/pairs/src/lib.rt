@@ -27,7 +27,9 @@ pub fn common_degree(shape: u32, class: u32) -> Result<Common, Refusal>
     if of_class == Err(Refusal::BadClass) {
         return Err(Refusal::BadClass);
     }
-    let shape = of_shape?;
+    let Ok(shape) = of_shape else {
+        return Err(Refusal::ShapeTooLarge);
+    };
     let degree = of_class?;
     if shape.degree != degree {
         return Err(Refusal::DegreesDiffer);

@@ -6,10 +6,15 @@ use Rattle.words.proofs.Told.{count-told-once, judged-once}
 use Rattle.sessions.specs.Opening.{opening}
 use Rattle.sessions.specs.Step.{preview, commit}
 use Rattle.sessions.proofs.Told.{handed-told-once}
+use Rattle.sessions.proofs.RefusedFromRefusal.from.Reads as refused-from
 use Rattle.sessions.proofs.open.Reads as open-session
 use Rattle.sessions.proofs.page_refusal.Reads as page-refusal
 use Rattle.sessions.proofs.preview.Reads as preview-session
 use Rattle.sessions.proofs.commit.Reads as commit-session
+
+pub refused-from-once : (κs : _) (a : _) (r r' : _) (s s' : _) → refused-from.Post κs a r s
+    → refused-from.Post κs a r' s' → r ≡ r'
+refused-from-once κs a r r' s s' p q = p ∙ sym q
 
 pub open-once : (κs : _) (a : _) (r r' : _) (s s' : _) → open-session.Post κs a r s → open-session.Post κs a r' s'
     → (r ≡ r') × (s.1.1.0.now ≡ s'.1.1.0.now)

@@ -77,7 +77,7 @@ impl Run {
             Err(refused) => (
                 kept & (refused.slip == BLANK),
                 true,
-                refused.refusal != Refusal::PageFull,
+                refused.refusal.number() != 10,
             ),
         };
         self.slip = handed.unwrap_or(self.slip);

@@ -1,14 +1,13 @@
 // The runs of document 01, "Examples to prove (E) and to run", on pages of no word and of one, each step a preview on
 // marks and its commit; the text that P1's issue shows, and a page that is too long.
-use super::texts::{MARK, WORD, just_fits, marked, marked_words};
+use super::texts::{MARK, WORD, is_unloaded, just_fits, marked, marked_words};
 use pages::{BLANK, Slip};
 use sessions::Refused;
-use sessiontext::Unloaded;
 use words::Refusal;
 
-// The answer of a call that is refused and hands back this slip.
-fn refused(refusal: Refusal, slip: Slip) -> Result<Slip, Refused> {
-    Err(Refused { refusal, slip })
+// Whether a call is refused by this number and hands back this slip.
+fn is_refused(answer: Result<Slip, Refused>, number: u8, slip: Slip) -> bool {
+    answer.is_err_and(|refused| (refused.refusal.number() == number) & (refused.slip == slip))
 }
 
 // No word: degree 0 opens with settled 1, and (1) on (1) is refused.
@@ -16,7 +15,7 @@ pub fn no_word() -> bool {
     let mut page = [0u64; 0];
     let opened = sessions::open(0, 0, &mut page);
     let full = sessions::open(0x2000_0000, 0x4000_0000, &mut page);
-    opened.is_ok_and(|slip| slip.settled == 1) & (full == refused(Refusal::PageFull, BLANK))
+    opened.is_ok_and(|slip| slip.settled == 1) & is_refused(full, 10, BLANK)
 }
 
 // One word: (2,1) on (1^3), struck by 1, has no room for two lines, nor has a strip of one word, which is not their
@@ -31,12 +30,12 @@ pub fn one_word() -> bool {
     let seen = sessions::preview(slip, &page, 0, 1, &mut strip);
     let other = sessions::commit(slip, &mut page, 0, 1, &short);
     let full = sessions::commit(slip, &mut page, 0, 1, &strip);
-    (unseen == Err(Refusal::StripTooShort))
+    (unseen.map_err(Refusal::number) == Err(18))
         & kept
         & (seen == Ok(2))
         & (strip == [0x1000_0000_6000_0000, 0x3000_0000_6000_0000, WORD])
-        & (other == refused(Refusal::NotThatPreview, slip))
-        & (full == refused(Refusal::PageFull, slip))
+        & is_refused(other, 19, slip)
+        & is_refused(full, 10, slip)
         & (page[0] == 0x2800_0000_7000_0000)
 }
 
@@ -48,10 +47,10 @@ pub fn no_line() -> bool {
     page[0] = 0;
     let unseen = sessions::preview(slip, &page, 0, 1, &mut strip);
     let unsound = sessions::commit(slip, &mut page, 0, 1, &strip);
-    (unseen == Err(Refusal::NotSound))
+    (unseen.map_err(Refusal::number) == Err(7))
         & marked_words(&strip)
         & (slip.lines == 1)
-        & (unsound == refused(Refusal::NotSound, slip))
+        & is_refused(unsound, 7, slip)
         & (page[0] == 0)
 }
 
@@ -112,11 +111,11 @@ pub fn kept_in_front() -> bool {
     let mut slip = sessions::open(0x2C00_0000, 0x1400_0000, &mut page).unwrap_or(BLANK);
     let sound = sessions::page_refusal(slip, &page);
     page[0] = 0x5600_0000_1400_0000;
-    let line = sessions::page_refusal(slip, &page);
+    let line = sessions::page_refusal(slip, &page).map_err(Refusal::number);
     page[0] = 0x2C00_0000_1400_0000;
     slip.shape = 0x5600_0000;
-    let shape = sessions::page_refusal(slip, &page);
-    (sound == Ok(())) & (line == Err(Refusal::NotSound)) & (shape == Err(Refusal::NotSound))
+    let shape = sessions::page_refusal(slip, &page).map_err(Refusal::number);
+    (sound == Ok(())) & (line == Err(7)) & (shape == Err(7))
 }
 
 // (3,2) on (3,2), struck by 3: minus (1,1) on (2) is left, and this text is what is saved and loaded.
@@ -142,14 +141,9 @@ pub fn too_long() -> bool {
     let loaded = sessiontext::load(b"", &mut page);
     let mut bytes = [MARK; 64];
     let saved = sessiontext::save(BLANK, &page, &mut bytes);
-    let unloaded = Unloaded {
-        refusal: Refusal::PageTooLong,
-        line: 0,
-        slip: BLANK,
-    };
-    (loaded == Err(unloaded))
+    is_unloaded(loaded, 6)
         & marked_words(&page)
-        & (saved == Err(Refusal::PageTooLong))
+        & (saved.map_err(Refusal::number) == Err(6))
         & marked(&bytes)
 }
 
@@ -160,9 +154,9 @@ pub fn too_long_to_strike() -> bool {
     let opened = sessions::open(0, 0, &mut page);
     let seen = sessions::preview(BLANK, &page, 0, 1, &mut strip);
     let struck = sessions::commit(BLANK, &mut page, 0, 1, &strip);
-    (opened == refused(Refusal::PageTooLong, BLANK))
-        & (seen == Err(Refusal::PageTooLong))
+    is_refused(opened, 6, BLANK)
+        & (seen.map_err(Refusal::number) == Err(6))
         & marked_words(&strip)
-        & (struck == refused(Refusal::PageTooLong, BLANK))
+        & is_refused(struck, 6, BLANK)
         & marked_words(&page)
 }

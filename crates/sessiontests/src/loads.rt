@@ -5,10 +5,8 @@ use super::comparing::{conserved, watches};
 use super::drawing::below;
 use super::parts::{front, front_mut};
 use super::runs::Run;
-use super::texts::{WORD, marked_words};
+use super::texts::{WORD, is_unloaded, marked_words};
 use pages::BLANK;
-use sessiontext::Unloaded;
-use words::Refusal;
 
 // Whether a page has these lines in front, then zeros up to `room`, and marks behind.
 fn holds(page: &[u64], lines: &[u64], room: usize) -> bool {
@@ -44,7 +42,7 @@ impl Run {
             }
             Err(unloaded) => {
                 let fault = line_cut(text, self.saved.slip.lines);
-                let told = (unloaded.refusal == Refusal::BadText) & (unloaded.line == fault);
+                let told = (unloaded.refusal.number() == 16) & (unloaded.line == fault);
                 (kept & (unloaded.slip == BLANK), true, cut & told)
             }
         };
@@ -70,14 +68,9 @@ impl Run {
         let mut page = [WORD; 24];
         let text = front(&self.text, saved.length);
         let loaded = sessiontext::load(text, front_mut(&mut page, room));
-        let full = Unloaded {
-            refusal: Refusal::PageFull,
-            line: 0,
-            slip: BLANK,
-        };
         let lines = front(&saved.page, saved.slip.lines);
         let tells = if room < saved.slip.lines {
-            (loaded == Err(full)) & marked_words(&page)
+            is_unloaded(loaded, 10) & marked_words(&page)
         } else {
             (loaded == Ok(saved.slip))
                 & holds(&page, lines, room)

@@ -31,10 +31,11 @@ fn room(word: u64) -> usize {
 fn has_room(slip: Slip, page: &[u64; PAGE], room: usize, answer: Result<usize, Refusal>) -> bool {
     let mut bytes = [0u8; ROOM];
     let whole = sessiontext::save(slip, page, &mut bytes);
+    let refused = answer.err().map(Refusal::number);
     if whole.is_ok_and(|length| room < length) {
-        answer == Err(Refusal::BufferTooShort)
+        refused == Some(17)
     } else {
-        answer == whole
+        refused == whole.err().map(Refusal::number)
     }
 }
 

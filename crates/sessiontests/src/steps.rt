@@ -10,23 +10,23 @@ use super::strips::{STRIP, handed, holds, room};
 use words::Refusal;
 
 // What must come of a preview on so many words, what must come of the strike being given: 18 where they are too few.
-fn previewed(new: Result<New, Refusal>, room: usize) -> Result<New, Refusal> {
+fn previewed(new: Result<New, u8>, room: usize) -> Result<New, u8> {
     let new = new?;
     if room.min(STRIP) < new.count {
-        return Err(Refusal::StripTooShort);
+        return Err(18);
     }
     Ok(new)
 }
 
 // What must come of a commit with a strip, what must come of the strike being given: 19 where the strip does not begin
 // with its lines, then 10 where more lines would wait than the page has words.
-fn committed(strike: Strike, new: Result<New, Refusal>, strip: &[u64]) -> Result<New, Refusal> {
+fn committed(strike: Strike, new: Result<New, u8>, strip: &[u64]) -> Result<New, u8> {
     let new = new?;
     if !strip.starts_with(new.lines()) {
-        return Err(Refusal::NotThatPreview);
+        return Err(19);
     }
     if strike.slip.lines.wrapping_add(new.count) > PAGE + 1 {
-        return Err(Refusal::PageFull);
+        return Err(10);
     }
     Ok(new)
 }
@@ -35,20 +35,20 @@ impl Run {
     // A preview on the first words of the run's strip. What must come of the strike is given: its lines come to the
     // front of the strip, or it is refused 18 where the words are too few. The page has the same words and shows the
     // same watches after.
-    fn preview(&mut self, strike: Strike, new: Result<New, Refusal>, room: usize) -> Outcome {
+    fn preview(&mut self, strike: Strike, new: Result<New, u8>, room: usize) -> Outcome {
         let Strike { slip, line, cycle } = strike;
         let before = self.strip;
         let shown = watches(slip, &self.page);
         let strip = front_mut(&mut self.strip, room);
         let answer = sessions::preview(slip, &self.page, line, cycle, strip);
-        let expected = previewed(new, room);
+        let lines = new.unwrap_or_default();
+        let fills = (answer == Ok(lines.count)) & holds(&self.strip, lines.lines(), &before);
         let right = Right {
             twins: (self.page == self.twin) & (watches(slip, &self.page) == shown),
             stays: answer.is_ok() | (self.strip == before),
-            comes: answer.is_err()
-                | expected.is_ok_and(|new| holds(&self.strip, new.lines(), &before)),
+            comes: answer.is_err() | fills,
             sums: true,
-            tells: answer == expected.map(|new| new.count),
+            tells: answer.err().map(Refusal::number) == previewed(new, room).err(),
         };
         Outcome {
             refused: answer.err(),
@@ -57,20 +57,24 @@ impl Run {
     }
 
     // A commit with a strip, what must come of the strike being given.
-    fn commit(&mut self, strike: Strike, new: Result<New, Refusal>, strip: &[u64]) -> Outcome {
+    fn commit(&mut self, strike: Strike, new: Result<New, u8>, strip: &[u64]) -> Outcome {
         let Strike { slip, line, cycle } = strike;
         let handed = sessions::commit(slip, &mut self.page, line, cycle, strip);
-        let expected = committed(strike, new, strip);
+        let expected = committed(strike, new, strip).err();
+        let new = new.unwrap_or_default();
         let (stays, comes, tells) = match handed {
             Ok(after) => {
-                let moves = expected.is_ok_and(|new| stepped(&self.page, &self.twin, strike, &new));
-                let lines = after.lines.wrapping_add(1);
-                let told = expected.is_ok_and(|new| lines == slip.lines.wrapping_add(new.count));
-                (true, counted(after, slip, 1) & moves, told)
+                let moves = stepped(&self.page, &self.twin, strike, &new);
+                let lines = after.lines.wrapping_add(1) == slip.lines.wrapping_add(new.count);
+                (
+                    true,
+                    counted(after, slip, 1) & moves,
+                    expected.is_none() & lines,
+                )
             }
             Err(refused) => {
                 let stays = (self.page == self.twin) & (refused.slip == slip);
-                (stays, true, expected.err() == Some(refused.refusal))
+                (stays, true, expected == Some(refused.refusal.number()))
             }
         };
         let other = sessions::commit(slip, &mut self.twin, line, cycle, strip);

@@ -2,10 +2,9 @@
 use super::drawing::{PAGE, Strike};
 use super::parts::front;
 use pages::Slip;
-use words::Refusal;
 
-// What must come of a strike: how many new lines there are, and their words.
-#[derive(Clone, Copy)]
+// What must come of a strike: how many new lines there are, and their words; by default none.
+#[derive(Clone, Copy, Default)]
 pub struct New {
     pub count: usize,
     words: [u64; PAGE],
@@ -62,18 +61,18 @@ fn new_lines(word: u64, class: u64, length: u64) -> New {
     New { count, words }
 }
 
-// What must come of a strike with a run's slip, or why it must be refused. A slip that counts other lines is not sound,
-// since a line would be 0, or a word after the lines not 0, or there would be more lines than words.
-pub fn struck(run: Slip, strike: Strike, page: &[u64; PAGE]) -> Result<New, Refusal> {
+// What must come of a strike with a run's slip, or the number that must refuse it. A slip that counts other lines is
+// not sound, since a line would be 0, or a word after the lines not 0, or there would be more lines than words.
+pub fn struck(run: Slip, strike: Strike, page: &[u64; PAGE]) -> Result<New, u8> {
     let lines = strike.slip.lines;
     let line = strike.line;
     let word = page[line % PAGE];
     if lines != run.lines {
-        return Err(Refusal::NotSound);
+        return Err(7);
     }
     if lines <= line {
-        return Err(Refusal::NoSuchLine);
+        return Err(8);
     }
-    let class = without(word % 0x1_0000_0000, strike.cycle).ok_or(Refusal::NoSuchCycle)?;
+    let class = without(word % 0x1_0000_0000, strike.cycle).ok_or(9)?;
     Ok(new_lines(word, class, strike.cycle))
 }

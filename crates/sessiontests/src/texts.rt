@@ -3,6 +3,7 @@ use super::board::Row;
 use super::drawing::PAGE;
 use super::parts::front_mut;
 use pages::{BLANK, Slip};
+use sessiontext::Unloaded;
 use words::Refusal;
 
 // How many bytes are enough for any text of sixteen lines, and one more.
@@ -29,10 +30,17 @@ pub fn just_fits(slip: Slip, page: &[u64], text: &[u8]) -> bool {
     let short = sessiontext::save(slip, page, front_mut(&mut bytes, length.wrapping_sub(1)));
     let stays = marked(&bytes);
     let full = sessiontext::save(slip, page, front_mut(&mut bytes, length));
-    (short == Err(Refusal::BufferTooShort))
+    (short.map_err(Refusal::number) == Err(17))
         & stays
         & (full == Ok(length))
         & bytes.strip_prefix(text).is_some_and(marked)
+}
+
+// Whether a load is refused by this number, at no line, and hands back a blank slip.
+pub fn is_unloaded(loaded: Result<Slip, Unloaded>, number: u8) -> bool {
+    loaded.is_err_and(|unloaded| {
+        (unloaded.refusal.number() == number) & (unloaded.line == 0) & (unloaded.slip == BLANK)
+    })
 }
 
 // What became of a text that was loaded: why it was refused, if it was, and at what line; and whether that is as
@@ -67,13 +75,14 @@ pub fn judge(text: &[u8]) -> Judged {
             line: unloaded.line,
             right: (unloaded.slip == BLANK)
                 & marked_words(&page)
-                & ((unloaded.line == 0) == (unloaded.refusal != Refusal::BadText)),
+                & ((unloaded.line == 0) == (unloaded.refusal.number() != 16)),
         },
     }
 }
 
-// Whether this refuses a text and, where that is 16, at a line.
-pub fn refuses(text: &[u8], refusal: Refusal, line: usize) -> bool {
+// Whether a text is refused by a number and, where that is 16, at a line.
+pub fn refuses(text: &[u8], number: u8, line: usize) -> bool {
     let judged = judge(text);
-    judged.right & (judged.refused == Some(refusal)) & (judged.line == line)
+    let refused = judged.refused.map(Refusal::number);
+    judged.right & (refused == Some(number)) & (judged.line == line)
 }

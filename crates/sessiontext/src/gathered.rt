@@ -92,7 +92,9 @@ fn sound_on(text: &[u8], start: usize, slip: Slip, page: &mut [u64], column: &mu
     gathering::refusal(slip, &page[..lines], &column[..lines]).is_ok()
 }
 
-// The same on local arrays.
+// The same on local arrays. The compiler may not take this into its caller, which would then have the arrays on the stack
+// where it refuses a text that it does not judge.
+#[inline(never)]
 fn sound(text: &[u8], start: usize, slip: Slip) -> bool
     requires { AllFormed text.now start slip }
     ensures { result ≡ sound_with gathered_mode degree_limit slip (read_as (lines_of (drop start text.now))) }

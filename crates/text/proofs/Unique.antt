@@ -10,6 +10,7 @@ use Rattle.text.specs.contracts.numbers.I64Written.TheImpl as signed
 use Rattle.text.specs.contracts.lists.RefSliceWritten.TheImpl as list
 use Rattle.text.proofs.writing.byte.Reads as byte
 use Rattle.text.proofs.writing.put.Reads as put
+use Rattle.text.proofs.numbers.U8Written.write.Reads as small
 use Rattle.text.proofs.numbers.U64Written.write.Reads as decimal
 use Rattle.text.proofs.numbers.I64Written.write.Reads as integer
 use Rattle.text.proofs.lists.RefSliceWritten.write.Reads as values
@@ -22,6 +23,10 @@ byte-once κs a r r' s s' p q = wrote-once p q
 pub put-once : (κs : _) (a : _) (r r' : _) (s s' : _) → put.Post κs a r s → put.Post κs a r' s'
     → (r ≡ r') × (s.1.0.now ≡ s'.1.0.now)
 put-once κs a r r' s s' p q = wrote-once p q
+
+pub small-once : (κs : _) (a : _) (r r' : _) (s s' : _) → small.Post κs a r s → small.Post κs a r' s'
+    → (r ≡ r') × (s.1.0.now ≡ s'.1.0.now)
+small-once κs a r r' s s' p q = wrote-once p q
 
 pub decimal-once : (κs : _) (a : _) (r r' : _) (s s' : _) → decimal.Post κs a r s → decimal.Post κs a r' s'
     → (r ≡ r') × (s.1.0.now ≡ s'.1.0.now)

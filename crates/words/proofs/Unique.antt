@@ -6,8 +6,18 @@ use Rattle.words.specs.Calls.{shape_parts_into, class_parts_into}
 use Rattle.words.specs.Calls.Laws.{one-period-told}
 use Rattle.words.proofs.Told.{word-told-once, number-told-once, degree-told-once, count-told-once, good-told-once, shape-told-once}
 use Rattle.words.specs.Parts.{parts_left}
+use Rattle.words.specs.declared.parts.Parts.{Parts}
+use Rattle.std.specs.Prelude.{ℕ, ◌<◌, ◌^◌, List, Option, Some, None, refl}
+use Rattle.std.specs.Iterator.{YieldsFirst}
+use Rattle.std.proofs.Common.{ap}
+use mathlib.Core.Path.{subst}
+use denote.Struct.Props.{props}
+use Rattle.theory.specs.Digits.{word}
+use Rattle.theory.specs.ClassWord.{class_digits}
+use Rattle.theory.proofs.ClassWord.Laws.{word-parts}
 use Rattle.words.proofs.refusal.Refusal.number.Reads as refusal-number
 use Rattle.words.proofs.parts.Parts.of.Reads as parts-of
+use Rattle.words.proofs.parts.PartsIterator.next.Reads as parts-next
 use Rattle.words.proofs.shapes.word.Reads as shape-word
 use Rattle.words.proofs.shapes.read.Reads as shape-reading
 use Rattle.words.proofs.shapes.good.Reads as good-shape
@@ -78,6 +88,27 @@ pub refusal-number-once : (κs : _) (a : _) (r r' : _) (s s' : _) → refusal-nu
     → refusal-number.Post κs a r' s' → r ≡ r'
 refusal-number-once κs a r r' s s' p q = p ∙ sym q
 
-pub parts-of-once : (κs : _) (a : _) (r r' : _) (s s' : _) → parts-of.Post κs a r s → parts-of.Post κs a r' s'
-    → parts_left r ≡ parts_left r'
-parts-of-once κs a r r' s s' p q = p.0 ∙ sym q.0
+-- the parts tell the digits that are left
+same-parts : (x y : Parts) → parts_left x ≡ parts_left y → x ≡ y
+same-parts x y e =
+    let back = λ (w : ℕ) (h : w < 2 ^ 31). word-parts 31 w h in
+    let rests : x.rest ≡ y.rest = sym (back x.rest x.below) ∙ ap (λ ps. word 31 (class_digits ps)) e ∙ back y.rest y.below in
+    let prop : IsProp (x.rest < 2 ^ 31) = hlevel props in
+    let same : (q : x.rest < 2 ^ 31) → Path Parts x (record { rest = x.rest; below = q })
+    = λ q i. record { rest = x.rest; below = prop x.below q i } in
+    subst (λ (n : ℕ). (q : n < 2 ^ 31) → Path Parts x (record { rest = n; below = q })) rests same y.below
+
+pub parts-of-once : (κs : _) (a : _) (r r' : _) (s s' : _) → parts-of.Post κs a r s → parts-of.Post κs a r' s' → r ≡ r'
+parts-of-once κs a r r' s s' p q = same-parts r r' (p.0 ∙ sym q.0)
+
+-- the next part, and those after it
+first-once : (parts left left' : List ℕ) (r r' : Option ℕ) → YieldsFirst (λ rest. rest) parts r left
+    → YieldsFirst (λ rest. rest) parts r' left' → r ≡ r'
+first-once parts left left' None None p q = refl
+first-once parts left left' None (Some y) p q = cc
+first-once parts left left' (Some x) None p q = cc
+first-once parts left left' (Some x) (Some y) p q = cc
+
+pub parts-next-once : (κs : _) (a : _) (r r' : _) (s s' : _) → parts-next.Post κs a r s → parts-next.Post κs a r' s'
+    → r ≡ r'
+parts-next-once κs a r r' s s' p q = first-once _ _ _ r r' p.0 q.0

@@ -7,26 +7,30 @@ pub enum Kind {
     Class,
 }
 
+// A refusal is told by its number.
 impl Kind {
-    pub fn degree(self, word: u32) -> Result<u32, Refusal> {
-        match self {
+    pub fn degree(self, word: u32) -> Result<u32, u8> {
+        let told = match self {
             Kind::Shape => words::shapes::degree(word),
             Kind::Class => words::classes::degree(word),
-        }
+        };
+        told.map_err(Refusal::number)
     }
 
-    pub fn parts(self, word: u32, column: &mut [u8]) -> Result<usize, Refusal> {
-        match self {
+    pub fn parts(self, word: u32, column: &mut [u8]) -> Result<usize, u8> {
+        let told = match self {
             Kind::Shape => words::shapes::parts(word, column),
             Kind::Class => words::classes::parts(word, column),
-        }
+        };
+        told.map_err(Refusal::number)
     }
 
-    pub fn word(self, parts: &[u8]) -> Result<u32, Refusal> {
-        match self {
+    pub fn word(self, parts: &[u8]) -> Result<u32, u8> {
+        let told = match self {
             Kind::Shape => words::shapes::word(parts),
             Kind::Class => words::classes::word(parts),
-        }
+        };
+        told.map_err(Refusal::number)
     }
 }
 
@@ -48,7 +52,7 @@ pub fn written(kind: Kind, word: u32, parts: &[u8], room: usize) -> bool {
     };
     let read = kind.parts(word, column);
     let (expected, given) = if room < parts.len() {
-        (Err(Refusal::ColumnTooShort), 0)
+        (Err(14), 0)
     } else {
         (Ok(parts.len()), parts.len())
     };

@@ -1,8 +1,7 @@
 // Lists of shapes in the old form, as classes are packed, and in the new: all partitions there and back, and every
 // refusal at its border.
-use oldlists::{LIST_LIMIT, Rejected};
+use oldlists::LIST_LIMIT;
 use testing::Tally;
-use words::Refusal::{self, BadClass, BadLengths, BadShape, ClassTooLarge, ShapeTooLarge};
 
 // The longest run that is tried, one word more than a list may have.
 const MOST: usize = LIST_LIMIT + 1;
@@ -18,11 +17,13 @@ enum Way {
 }
 
 impl Way {
-    fn moved(self, given: &[u32], lent: &mut [u32]) -> Result<(), Rejected> {
-        match self {
+    // Moves a list, or tells the number that refuses it and the index.
+    fn moved(self, given: &[u32], lent: &mut [u32]) -> Result<(), (u8, usize)> {
+        let moved = match self {
             Way::ToOld => oldlists::to_old(given, lent),
             Way::FromOld => oldlists::from_old(given, lent),
-        }
+        };
+        moved.map_err(|rejected| (rejected.refusal.number(), rejected.index))
     }
 }
 
@@ -60,7 +61,13 @@ pub fn all() -> Tally {
 }
 
 // Whether a list of so many words, all alike, is moved to one of `room` words as words of the empty shape, or refused.
-fn length(way: Way, count: usize, room: usize, word: u32, expected: Result<(), Rejected>) -> bool {
+fn length(
+    way: Way,
+    count: usize,
+    room: usize,
+    word: u32,
+    expected: Result<(), (u8, usize)>,
+) -> bool {
     let from = [word; MOST];
     let mut to = [LENT; MOST];
     let (Some(given), Some(lent)) = (from.get(..count), to.get_mut(..room)) else {
@@ -77,10 +84,7 @@ fn lengths(found: Tally, way: Way) -> Tally {
     for count in [0, 1, LIST_LIMIT] {
         t = t.add(length(way, count, count, 0, Ok(())));
     }
-    let refused = Err(Rejected {
-        refusal: BadLengths,
-        index: 0,
-    });
+    let refused = Err((20, 0));
     for (count, room) in [
         (MOST, MOST),
         (0, 1),
@@ -98,7 +102,7 @@ fn lengths(found: Tally, way: Way) -> Tally {
 }
 
 // Whether the longest list is refused for the word at this place, though the last word is bad too.
-fn bad_at(way: Way, place: usize, word: u32, refusal: Refusal) -> bool {
+fn bad_at(way: Way, place: usize, word: u32, refused: u8) -> bool {
     if LIST_LIMIT <= place {
         return false;
     }
@@ -106,26 +110,22 @@ fn bad_at(way: Way, place: usize, word: u32, refusal: Refusal) -> bool {
     given[LIST_LIMIT - 1] = 0xFFFF_FFFF;
     given[place] = word;
     let mut lent = [LENT; LIST_LIMIT];
-    let refused = Err(Rejected {
-        refusal,
-        index: place,
-    });
-    (way.moved(&given, &mut lent) == refused) & holds(&lent, 0, 0)
+    (way.moved(&given, &mut lent) == Err((refused, place))) & holds(&lent, 0, 0)
 }
 
 // Old words with bit 31 set, with a rise and of degree 17; new ones of 2^30, of degree 17, and of both kinds.
 fn bad_words(found: Tally) -> Tally {
     let mut t = found;
-    for (way, word, refusal) in [
-        (Way::FromOld, 0x8000_0000, BadClass),
-        (Way::FromOld, 0x5000_0000, BadClass),
-        (Way::FromOld, 0x0000_4000, ClassTooLarge),
-        (Way::ToOld, 0x4000_0000, BadShape),
-        (Way::ToOld, 0x5FFF_F000, BadShape),
-        (Way::ToOld, 0x3FFF_E000, ShapeTooLarge),
+    for (way, word, refused) in [
+        (Way::FromOld, 0x8000_0000, 3),
+        (Way::FromOld, 0x5000_0000, 3),
+        (Way::FromOld, 0x0000_4000, 4),
+        (Way::ToOld, 0x4000_0000, 1),
+        (Way::ToOld, 0x5FFF_F000, 1),
+        (Way::ToOld, 0x3FFF_E000, 2),
     ] {
         for place in [0, 1, 2047, LIST_LIMIT - 1] {
-            t = t.add(bad_at(way, place, word, refusal));
+            t = t.add(bad_at(way, place, word, refused));
         }
     }
     t

@@ -5,7 +5,7 @@ use Rattle.std.proofs.lemmas.Result.{err_from_is_err_and}
 use native.Mathlib.Omega.{arith}
 use lib.Seq.{length-take-le}
 use Rattle.theory.specs.Limits.{degree_limit}
-use Rattle.words.proofs.Told.{refuses, is-given, count-told-number}
+use Rattle.words.proofs.Told.{refuses, given-where, count-told-number}
 use Rattle.listing.proofs.Indexes.{section-found}
 use Rattle.classcolumns.proofs.ColumnAnswers.{refused-class, class-given, counted, parts-read}
 use Rattle.classcolumns.proofs.ColumnAnswers.{short-column, filled-column}
@@ -26,26 +26,21 @@ returns-then-values-count c =
     let count = counted given c.args.values.now (rw c.unwrap-count.ensures at c.section.ensures) in
     short-column given _ (omega (arith, count, c.if-values-count.true))
 
-pub unwrap-cycles-requires : goal.unwrap-cycles-requires
-unwrap-cycles-requires c =
-    let front = parts-read (omega arith) (class-given c.in_ok-degree.ensures) _ _ c.parts.ensures in
-    is-given c.parts.result (sym (count-told-number c.parts.result) ∙ front.none)
-
 pub slice_bounds-parts-end-2 : goal.slice_bounds-parts-end-2
 slice_bounds-parts-end-2 c =
-    let parts = rw c.unwrap-cycles.ensures at c.parts.ensures in
-    (parts-read (omega arith) (class-given c.in_ok-degree.ensures) _ _ parts).inside
+    let read = parts-read (omega arith) (class-given c.in_ok-degree.ensures) _ _ c.parts.ensures in
+    let x = given-where c.parts.result (sym (count-told-number c.parts.result) ∙ read.none) in rw (rw x.1 at c.unwrap_or-cycles.ensures) (rw x.1 at read.inside)
 
 pub slice_bounds-write-end : goal.slice_bounds-write-end
 slice_bounds-write-end c =
-    let parts = rw c.unwrap-cycles.ensures at c.parts.ensures in
-    sym (length-take-le _ _ (parts-read (omega arith) (class-given c.in_ok-degree.ensures) _ _ parts).inside)
+    let read = parts-read (omega arith) (class-given c.in_ok-degree.ensures) _ _ c.parts.ensures in let x = given-where c.parts.result (sym (count-told-number c.parts.result) ∙ read.none) in
+    sym (length-take-le _ _ (rw (sym (rw x.1 at c.unwrap_or-cycles.ensures)) at (rw x.1 at read.inside)))
 
 pub write-requires : goal.write-requires
 write-requires c =
     let given = class-given c.in_ok-degree.ensures in
     let count = counted given c.args.values.now (rw c.unwrap-count.ensures at c.section.ensures) in
-    let front = (parts-read (omega arith) given _ _ (rw c.unwrap-cycles.ensures at c.parts.ensures)).front in
+    let read = parts-read (omega arith) given _ _ c.parts.ensures in let x = given-where c.parts.result (sym (count-told-number c.parts.result) ∙ read.none) in let front = rw (sym (rw x.1 at c.unwrap_or-cycles.ensures)) at (rw x.1 at read.front) in
     rw front
     (record {
       cycles = (given.cycles, given.degree);
@@ -56,5 +51,5 @@ pub returns : goal.returns
 returns c =
     let given = class-given c.in_ok-degree.ensures in
     let count = counted given c.args.values.now (rw c.unwrap-count.ensures at c.section.ensures) in
-    let front = (parts-read (omega arith) given _ _ (rw c.unwrap-cycles.ensures at c.parts.ensures)).front in
-    filled-column given _ (omega (arith, count, c.if-values-count.false)) _ _ count (rw front at c.write.ensures)
+    let read = parts-read (omega arith) given _ _ c.parts.ensures in let x = given-where c.parts.result (sym (count-told-number c.parts.result) ∙ read.none) in let cycles = rw (sym (rw x.1 at c.unwrap_or-cycles.ensures)) at (rw x.1 at read.front) in
+    filled-column given _ (omega (arith, count, c.if-values-count.false)) _ _ count (rw cycles at c.write.ensures)

@@ -74,7 +74,7 @@ pub returns-in-Some : goal.returns-in-Some
 returns-in-Some c =
     let a = among c.args.word c.args.degree _ (section_told (Ok c.unwrap-section.result)) c.requires
     (sym (ap section_told c.unwrap-section.ensures) ∙ c.section.ensures) in
-    same _ _ (c.in-Some.ensures ∙ a.stands)
+    omega (arith, same _ _ (c.in-Some.ensures ∙ a.stands))
 
 none : (r : ℕ) → None ≡ Some r → 0 ≡ r
 none r e = cc

@@ -110,22 +110,27 @@ pub record FirstPart (W x z : ℕ) : Type 0 where
   pub within : z ≤ W
   pub reads : parts_after 0 (digits W x) ≡ z ∷ parts_after 0 (digits W (x * 2 ^ z % 2 ^ suc W % 2 ^ W))
 
+-- it is the next part where no digit is read
 pub first_part : (W x : ℕ) → 0 < x → x < 2 ^ W → FirstPart W x (count_leading_zeros (suc W) x)
-first_part W x p h = go (count_leading_zeros (suc W) x) (leading_top (suc W) x p (omega arith))
+first_part W x p h =
+    let none : W - 0 ≡ W = omega arith in
+    go (count_leading_zeros (suc W) x) (leading_top (suc W) x p (omega arith)) (next-part W 0 x p (rw none h))
   where
-    go : (z : ℕ) → (j : ℕ) × (z + suc j ≡ suc W) × (2 ^ j ≤ x) × (x < 2 ^ suc j) → FirstPart W x z
-    go z (j, e, lo, hi) =
+    go : (z : ℕ) → (j : ℕ) × (z + suc j ≡ suc W) × (2 ^ j ≤ x) × (x < 2 ^ suc j)
+        → NextPart W 0 x z (1 * 2 ^ (W - z) % 2 ^ suc W) → FirstPart W x z
+    go z (j, e, lo, hi) next =
         let size : j + z ≡ W = omega arith in
-        let unread : j < W = lt_of_not-le (λ (g : W ≤ j). not-le_of_lt (lt_of_le_of_lt lo h) (pow_mono g)) in
+        let digit : W - z ≡ j = omega arith in
+        let b : 1 * 2 ^ j % 2 ^ suc W ≡ 2 ^ j = one_shifted (suc W) j (omega arith) in
         let whole : 2 ^ j + (x - 2 ^ j) ≡ x = omega arith in
         let r : x - 2 ^ j < 2 ^ j = omega arith in
-        let n : suc (z - 1 + j) ≡ W = omega arith in
-        let part : suc (0 + (z - 1)) ≡ z = omega arith in
-        let first = rw (n, whole, part) at (parts-front 0 (z - 1) j (x - 2 ^ j) r) in
+        let none : W - 0 ≡ W = omega arith in
+        let part : z - 0 ≡ z = omega arith in
+        let first = rw (none, part, digit, b) at next.reads in
         let out = rw (size, whole) at (one_out j z (x - 2 ^ j) r) in
         let back = rw size at (parts-shift j z (x - 2 ^ j)) in
         record {
-          some = omega arith;
-          within = omega arith;
+          some = next.above;
+          within = next.within;
           reads = rw (digits-rest W (x * 2 ^ z % 2 ^ suc W), out, back) first;
         }

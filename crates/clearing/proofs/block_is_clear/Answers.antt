@@ -3,7 +3,7 @@ use Rattle.std.proofs.Common.{◌∙◌, ◌&&◌, true, rules}
 use Rattle.std.proofs.lemmas.Iterator.{YieldsList-from_slice}
 use Rattle.std.proofs.lemmas.Iterator.Consumers.{fold_from_yields_List}
 use Rattle.clearing.proofs.Zeros.{fold-every}
-use Rattle.clearing.proofs.is_clear.Goals as goal
+use Rattle.clearing.proofs.block_is_clear.Goals as goal
 
 pub returns : goal.returns
 returns g c =
@@ -13,6 +13,6 @@ returns g c =
     true
     c.fold.result
     c.fold.ensures.ran
-    (YieldsList-from_slice c.args.lent.now cc)
+    (YieldsList-from_slice c.args.block.now cc)
     (λ b x r q k. search rules)
-    ∙ fold-every g.T.Zero.is_zero c.args.lent.now
+    ∙ fold-every g.T.Zero.is_zero c.args.block.now

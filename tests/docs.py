@@ -2,13 +2,14 @@
 """docs.py: what the pages name is there, and what is there is named. Run it in the repository; needs python3 alone.
 
 The pages are README.md and docs/*.md; docs/changes/*.md are history, which names what has gone, and are left out, as
-docs/PORT*.md are, which tell of the move from an older Rattle.
+docs/PORT*.md are, which tell of the move from an older Rattle, and docs/DESIGN-PASS.md, which tells old beside new.
 - Every name in backquotes is a crate, a module, a function, a type, a field, a constant, an edit, a definition or
   theorem, a file or folder, a command, or one of the few words listed below. X: `name` says that X.antt has it, in
   theory that of specs/ or that of proofs/.
-- docs/PROMISES.md has one row for each public function, and no other; its theorem stands in proofs/Unique.antt of its
-  crate and speaks of this function's contract; its edits are must-fail edits of its crate, or of the one that it names;
-  each call but an export has two or more, or an exception with a reason.
+- docs/PROMISES.md has one row for each public function and for each method of a trait that others can call, and no
+  other; its theorem stands in proofs/Unique.antt of its crate and speaks of this function's contract, the first of a
+  generic one of all types; its edits are must-fail edits of its crate, or of the one that it names; each call but an
+  export has two or more, or an exception with a reason.
 - Every edit, and every theorem of a Unique.antt, is named: an edit on PROMISES or READING, a theorem on PROMISES.
 - Every definition file is named on READING, every crate has a row on ARCHITECTURE, row k of the refusals names no-k,
   and the tables that tools/pages.py writes are what it writes. No edit changes a file of proofs/, but for laws of what
@@ -386,7 +387,8 @@ def unnoticed(texts):
 
 
 def main():
-    files = ['README.md', *(file for file in sorted(glob.glob('docs/*.md')) if not file.startswith(('docs/PORT', 'docs/DESIGN-PASS')))]
+    told = ('docs/PORT', 'docs/DESIGN-PASS')
+    files = ['README.md', *(file for file in sorted(glob.glob('docs/*.md')) if not file.startswith(told))]
     texts = {page: tree.read(page) for page in files}
     found = sorted(set(lacking(texts))) or list(unnoticed(texts))
     for line in found:

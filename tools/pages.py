@@ -126,11 +126,15 @@ def written_order(file, names):
     return sorted(names, key=lambda name: items.index(name) if name in items else -1)
 
 
-def members(text):
-    """What the ghost members of the traits, blocks and types of a file say, laws and their proofs left out."""
-    said = re.findall(r'^ *(?:pub )?ghost (\w+)(?: =|:) \{(.*?)\}[;,]$', text, re.M | re.S)
-    laws = {name for name, body in re.findall(r'^ *ghost (\w+): \{(.*?)\};$', text, re.M | re.S) if body.startswith(' (')}
-    return laws, [(name, body) for name, body in said]
+def members(file):
+    """The ghost members of a file's traits, blocks and types: their names, and what each says."""
+    return re.findall(r'^ *(?:pub )?ghost (\w+)(?: =|:) \{(.*?)\}[;,]$', tree.read(file), re.M | re.S)
+
+
+def laws(file):
+    """The members that a trait of a file declares as laws: what a block says of one is its proof."""
+    declared = re.findall(r'^ *ghost (\w+): \{(.*?)\};$', tree.read(file), re.M | re.S)
+    return {name for name, body in declared if body.startswith(' (')}
 
 
 @functools.cache
@@ -139,15 +143,14 @@ def believed():
     for function in tree.public_functions():
         if function.path.split('::')[0] not in NOT_BELIEVED:
             found |= tree.reached(function.file, function.promise)
-    for file in sorted({function.file for function in tree.methods()}):
-        crate = file.split('/')[1]
+    for function in tree.methods():
+        crate = function.path.split('::')[0]
         if crate not in NOT_BELIEVED:
             root = 'crates/%s/src/lib.rt' % crate
-            laws, _ = members(tree.read(root))
-            for path in {file, root}:
-                for name, body in members(tree.read(path))[1]:
-                    if name not in laws:
-                        found |= tree.reached(path, body)
+            for file in {function.file, root}:
+                for name, body in members(file):
+                    if name not in laws(root):
+                        found |= tree.reached(file, body)
     return found
 
 
